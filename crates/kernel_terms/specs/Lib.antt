@@ -1,0 +1,5 @@
+pub mod Names
+pub mod Statements
+pub mod MayEnd
+pub mod WellFormed
+pub mod Systems

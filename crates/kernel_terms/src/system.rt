@@ -1,0 +1,42 @@
+use crate::tables::Tables;
+use crate::term::Term;
+use sqlite_items::Items;
+
+/// A program: its tables, and one statement per clock domain. It is well formed: there is one domain,
+/// the names of the signals are names and differ, there are at most 1,024 of them, each emission names
+/// one, and no sequence is empty.
+#[derive(Drop)]
+pub struct System {
+    tables: Tables,
+    domains: Items<Term>,
+    ghost well_formed: { is_well_formed tables domains ≡ true },
+}
+
+ghost use Rattle.std.specs.Prelude.{◌≡◌, true};
+ghost use Rattle.kernel_terms.specs.WellFormed.{is_well_formed};
+
+impl System {
+    ghost use Rattle.std.specs.Prelude.{◌≡◌, true, length, slice_get, Some};
+    ghost use Rattle.kernel_terms.specs.WellFormed.{is_well_formed};
+    ghost use Rattle.kernel_terms.specs.Systems.{tables_of, domains_of};
+
+    pub fn new(tables: Tables, domains: Items<Term>) -> System
+        requires { is_well_formed tables domains ≡ true }
+        ensures tables { tables_of result ≡ tables }
+        ensures domains { domains_of result ≡ domains }
+    {
+        System { tables, domains }
+    }
+
+    pub fn tables(&self) -> &Tables
+        ensures { result.now ≡ tables_of self.now }
+    {
+        &self.tables
+    }
+
+    pub fn domains(&self) -> &[Term]
+        ensures { result.now ≡ domains_of self.now }
+    {
+        self.domains.as_slice()
+    }
+}

@@ -1,0 +1,6 @@
+pub mod Causes
+pub mod Counts
+pub mod Files
+pub mod Sinks
+pub mod Memory
+pub mod Host

@@ -1,0 +1,142 @@
+ghost use Rattle.std.specs.Prelude.{◌≡◌, ◌+◌, ◌-◌, ◌<◌, ◌≤◌, [], ◌∷◌, ◌++◌, length, IfOk, IsOk, IsTrue, cond, slice_index_or, Some, None, vec_len, vec_capacity};
+ghost use Rattle.tick_log.specs.Runs.{Going, mark_of, statuses_of, entry_at};
+
+use kernel_terms::NoMemory;
+use std::alloc::Global;
+use std::marker::Model;
+
+/// The ticks of a domain: their stamps, which interface signals were present in each and with which
+/// values, and whether the domain has ended. All its memory is taken when it is opened.
+#[derive(Drop)]
+pub struct Log {
+    stamps: Vec<u64>,
+    statuses: Vec<Option<i64>>,
+    signals: u32,
+    room: u32,
+    ended: bool,
+}
+
+impl Model for Log {
+    ghost use Rattle.tick_log.specs.Runs.{LogState, mark_of};
+    ghost use Rattle.tick_log.specs.Logs.{entries_of, Keeps};
+
+    ghost Value = { LogState };
+
+    ghost view = { λ l. record { entries = entries_of l.signals l.stamps.items l.statuses.items; mark = mark_of l.ended; signals = l.signals; room = l.room } };
+
+    ghost invariant = { λ l. Keeps l.stamps l.statuses l.signals l.room l.ended };
+}
+
+impl Log {
+    /// An empty log over so many signals, with room for so many ticks. The memory of all of them is
+    /// taken here: `NoMemory` says that it was refused.
+    pub fn open(alloc: Global, signals: u32, ticks: u32) -> Result<Log, NoMemory>
+        ensures log { IfOk result (λ log. log ≡ record { entries = []; mark = Going; signals = signals; room = ticks }) }
+        ensures empty { ticks ≡ 0 → IsOk result }
+    {
+        let stamps = Vec::with_capacity(alloc, ticks as usize)?;
+        let statuses = Vec::with_capacity(alloc, signals as usize * ticks as usize)?;
+        Ok(Log {
+            stamps,
+            statuses,
+            signals,
+            room: ticks,
+            ended: false,
+        })
+    }
+
+    /// Adds a tick: its stamp, for each signal whether it was present and its value, which counts only
+    /// where it was, and whether the domain ended in it. It takes no memory.
+    pub fn push(&mut self, stamp: u64, present: &[bool], values: &[i64], ended: bool)
+        requires room { 1 ≤ self.old.room }
+        requires present { length present.now ≡ self.old.signals }
+        requires values { length values.now ≡ self.old.signals }
+        ensures { self.new ≡ record {
+          entries = self.old.entries ++ record { stamp = stamp; statuses = statuses_of present.now values.now } ∷ [];
+          mark = mark_of ended;
+          signals = self.old.signals;
+          room = self.old.room - 1;
+        } }
+    {
+        append(&mut self.statuses, present, values);
+        push_within(&mut self.stamps, stamp);
+        self.ended = ended;
+        self.room -= 1;
+    }
+
+    /// The number of ticks.
+    pub fn len(&self) -> u32
+        ensures { result ≡ length self.now.entries }
+    {
+        self.stamps.len() as u32
+    }
+
+    /// Whether the domain ended in its last tick.
+    pub fn ended(&self) -> bool
+        ensures mark { mark_of result ≡ self.now.mark }
+        ensures entry { IsTrue result → 1 ≤ length self.now.entries }
+    {
+        self.ended
+    }
+
+    /// The number of interface signals.
+    pub fn signals(&self) -> u32
+        ensures { result ≡ self.now.signals }
+    {
+        self.signals
+    }
+
+    /// The stamp of a tick. Ticks count from 1.
+    pub fn stamp(&self, tick: u32) -> u64
+        requires { (1 ≤ tick) × (tick ≤ length self.now.entries) }
+        ensures { result ≡ (entry_at self.now.entries (tick - 1)).stamp }
+    {
+        self.stamps[tick as usize - 1]
+    }
+
+    /// The value of a signal in a tick, where it was present. Ticks count from 1, signals from 0.
+    pub fn status(&self, tick: u32, signal: u32) -> Option<i64>
+        requires tick { (1 ≤ tick) × (tick ≤ length self.now.entries) }
+        requires signal { signal < self.now.signals }
+        ensures { result ≡ slice_index_or (entry_at self.now.entries (tick - 1)).statuses signal None }
+    {
+        let before = self.signals as usize * (tick as usize - 1);
+        self.statuses[before + signal as usize]
+    }
+}
+
+// Adds the statuses of one tick, into memory that is there already.
+#[tactic(auto, using(crate::proofs::Statuses::status_steps))]
+fn append(statuses: &mut Vec<Option<i64>>, present: &[bool], values: &[i64])
+    requires same { length present.now ≡ length values.now }
+    requires room { vec_len statuses.old + length present.now ≤ vec_capacity statuses.old }
+    ensures items { statuses.new.items ≡ statuses.old.items ++ statuses_of present.now values.now }
+    ensures len { vec_len statuses.new ≡ vec_len statuses.old + length present.now }
+    ensures capacity { vec_capacity statuses.old ≤ vec_capacity statuses.new }
+{
+    for (i, is_present) in present.iter().enumerate() {
+        push_within(statuses, status_of(*is_present, values[i]));
+    }
+}
+
+fn status_of(is_present: bool, value: i64) -> Option<i64>
+    ensures { result ≡ cond is_present (Some value) None }
+{
+    if is_present { Some(value) } else { None }
+}
+
+// Adds an item, into memory that is there already.
+fn push_within<T: Drop>(items: &mut Vec<T>, item: T)
+    requires { vec_len items.old < vec_capacity items.old }
+    ensures items { items.new.items ≡ items.old.items ++ item ∷ [] }
+    ensures len { vec_len items.new ≡ vec_len items.old + 1 }
+    ensures capacity { vec_capacity items.old ≤ vec_capacity items.new }
+{
+    let _ = items.push(item);
+}
+
+/// The logs of all domains, by rising number.
+#[derive(Drop)]
+pub struct Run {
+    pub domains: Vec<Log>,
+}
