@@ -1,0 +1,137 @@
+-- Looking up and declaring names.
+use Rattle.std.proofs.Common.{◌≡◌, ℕ, suc, ◌+◌, ◌<◌, Bool, true, false, ◌&&◌, ◌||◌, not, cond, nat_lt, List, [], ◌∷◌, ◌++◌, length, map, Some, None, ap, refl, sym, ◌∙◌, arith, length-append}
+use Rattle.std.specs.Prelude.{position, MatchBool, if◌then◌else◌}
+use Rattle.std.specs.List.{list_any, position_or_len}
+use Rattle.std.specs.Str.{bytes_eq}
+use Rattle.std.proofs.lemmas.List.Folds.{list_any-append}
+use Rattle.std.proofs.lemmas.List.{map-append}
+use Rattle.std.proofs.lemmas.Bool.Decides.{nat_tests}
+use Rattle.std.proofs.lemmas.Slice.Eq.{bytes_eq-Decides}
+use Rattle.kernel_terms.specs.Names.{are_distinct}
+use Rattle.kernel_terms.specs.WellFormed.{most_signals}
+use Rattle.sj_main.specs.ReadingNames.{AreNames, IsPlace, Declared, IsRefused}
+
+suc_lt : (a b : ℕ) → nat_lt (1 + a) (suc b) ≡ nat_lt a b
+suc_lt a b = same_by_omega (nat_lt (1 + a) (suc b)) (nat_lt a b) (λ h. grind (arith, nat_tests)) (λ h. grind (arith, nat_tests))
+  where
+    same_by_omega : (x y : Bool) → (x ≡ true → y ≡ true) → (y ≡ true → x ≡ true) → x ≡ y
+    same_by_omega true y f g = sym (f refl)
+    same_by_omega false true f g = g refl
+    same_by_omega false false f g = refl
+
+zero_lt : (m : ℕ) → nat_lt 0 (suc m) ≡ true
+zero_lt m = grind (arith, nat_tests)
+
+any_at_head : (b c : Bool) (n m : ℕ) → nat_lt n m ≡ c → nat_lt (cond (not b) (1 + n) 0) (suc m) ≡ (b || c)
+any_at_head true c n m h = zero_lt m
+any_at_head false c n m h = suc_lt n m ∙ h
+
+-- a place below the length is one that passes
+any_at : {X : Type 0} (p : X → Bool) (xs : List X) → nat_lt (position_or_len p xs) (length xs) ≡ list_any p xs
+any_at p [] = refl
+any_at p (x ∷ xs) = any_at_head (p x) (list_any p xs) (position_or_len p xs) (length xs) (any_at p xs)
+
+position_map : {X Y : Type 0} (p : Y → Bool) (f : X → Y) (xs : List X) → position_or_len (λ x. p (f x)) xs ≡ position_or_len p (map f xs)
+position_map p f [] = refl
+position_map p f (x ∷ xs) = ap (λ n. cond (not (p (f x))) (1 + n) 0) (position_map p f xs)
+
+any_map : {X Y : Type 0} (p : Y → Bool) (f : X → Y) (xs : List X) → list_any (λ x. p (f x)) xs ≡ list_any p (map f xs)
+any_map p f [] = refl
+any_map p f (x ∷ xs) = ap (λ b. p (f x) || b) (any_map p f xs)
+
+length_map : {X Y : Type 0} (f : X → Y) (xs : List X) → length xs ≡ length (map f xs)
+length_map f [] = refl
+length_map f (x ∷ xs) = ap suc (length_map f xs)
+
+by_found : (b : Bool) (n i : ℕ) → cond b (Some n) None ≡ Some i → (b ≡ true) × (i ≡ n)
+by_found true n i h = (refl, cc)
+by_found false n i h = cc
+
+by_missing : (b : Bool) (n : ℕ) → cond b (Some n) None ≡ None → b ≡ false
+by_missing true n h = cc
+by_missing false n h = refl
+
+below : (a b : ℕ) → nat_lt a b ≡ true → a < b
+below a b h = grind (arith, nat_tests)
+
+pub place_found : {X : Type 0} (f : X → List ℕ) (xs : List X) (name : List ℕ) (i : ℕ) → position (λ x. bytes_eq name (f x)) xs ≡ Some i → IsPlace (map f xs) name i
+place_found f xs name i h =
+    let b = by_found (nat_lt (position_or_len (λ x. bytes_eq name (f x)) xs) (length xs)) (position_or_len (λ x. bytes_eq name (f x)) xs) i h in
+    let e = position_map (bytes_eq name) f xs in
+    let l = length_map f xs in
+    record {
+      declared = sym (any_map (bytes_eq name) f xs) ∙ sym (any_at (λ x. bytes_eq name (f x)) xs) ∙ b.0;
+      number = b.1 ∙ e;
+      within = let k = below (position_or_len (λ x. bytes_eq name (f x)) xs) (length xs) b.0 in omega (arith, b.1, l);
+    }
+
+pub place_missing : {X : Type 0} (f : X → List ℕ) (xs : List X) (name : List ℕ) → position (λ x. bytes_eq name (f x)) xs ≡ None → list_any (bytes_eq name) (map f xs) ≡ false
+place_missing f xs name h =
+    let b = by_missing (nat_lt (position_or_len (λ x. bytes_eq name (f x)) xs) (length xs)) (position_or_len (λ x. bytes_eq name (f x)) xs) h in
+    sym (any_map (bytes_eq name) f xs) ∙ sym (any_at (λ x. bytes_eq name (f x)) xs) ∙ b
+
+bytes_swap : (a b : List ℕ) → bytes_eq a b ≡ bytes_eq b a
+bytes_swap a b = same (bytes_eq a b) (bytes_eq b a) (λ h. (bytes_eq-Decides b a).1 (sym ((bytes_eq-Decides a b).0 h))) (λ h. (bytes_eq-Decides a b).1 (sym ((bytes_eq-Decides b a).0 h)))
+  where
+    same : (x y : Bool) → (x ≡ true → y ≡ true) → (y ≡ true → x ≡ true) → x ≡ y
+    same true y f g = sym (f refl)
+    same false true f g = g refl
+    same false false f g = refl
+
+-- a new name keeps the others apart
+distinct_push : (names : List (List ℕ)) (name : List ℕ) → are_distinct names ≡ true → list_any (bytes_eq name) names ≡ false → are_distinct (names ++ name ∷ []) ≡ true
+distinct_push [] name d h = refl
+distinct_push (n ∷ ns) name d h =
+    step (list_any (bytes_eq n) ns) (bytes_eq name n) (list_any (bytes_eq name) ns) (are_distinct ns) (list_any (bytes_eq n) (ns ++ name ∷ [])) (are_distinct (ns ++ name ∷ [])) d h
+    (list_any-append (bytes_eq n) ns (name ∷ []) ∙ ap (λ b. list_any (bytes_eq n) ns || (b || false)) (bytes_swap n name)) (distinct_push ns name)
+  where
+    step : (a b c d e f : Bool) → (not a && d) ≡ true → (b || c) ≡ false → e ≡ (a || (b || false)) → (d ≡ true → c ≡ false → f ≡ true) → (not e && f) ≡ true
+    step true b c d e f h k i j = cc
+    step false true c d e f h k i j = cc
+    step false false c d e f h k i j = ap (λ x. not x && f) i ∙ j h k
+
+-- a repeated name doesn't
+distinct_not : (names more : List (List ℕ)) (name : List ℕ) → are_distinct (names ++ name ∷ more) ≡ true → list_any (bytes_eq name) names ≡ false
+distinct_not [] more name d = refl
+distinct_not (n ∷ ns) more name d =
+    step (list_any (bytes_eq n) ns) (bytes_eq name n) (list_any (bytes_eq n) more) (list_any (bytes_eq n) (ns ++ name ∷ more)) (are_distinct (ns ++ name ∷ more)) (list_any (bytes_eq name) ns) d
+    (list_any-append (bytes_eq n) ns (name ∷ more) ∙ ap (λ b. list_any (bytes_eq n) ns || (b || list_any (bytes_eq n) more)) (bytes_swap n name)) (distinct_not ns more name)
+  where
+    step : (a b m e f c : Bool) → (not e && f) ≡ true → e ≡ (a || (b || m)) → (f ≡ true → c ≡ false) → (b || c) ≡ false
+    step a b m true f c h k i = cc
+    step true b m false f c h k i = cc
+    step false true m false f c h k i = cc
+    step false false m false f c h k i = i h
+
+pub declared_new : (names new : List (List ℕ)) (name : List ℕ) → AreNames names → length names < most_signals → list_any (bytes_eq name) names ≡ false → new ≡ names ++ name ∷ [] → Declared names new name
+declared_new names new name a l h e = record {
+  names = e;
+  good = rw e (record { distinct = distinct_push names name a.distinct h; few = rw (length-append names (name ∷ [])) (omega arith) });
+}
+
+pub refused_repeated : (names : List (List ℕ)) (name : List ℕ) → list_any (bytes_eq name) names ≡ true → IsRefused names name
+refused_repeated names name h = record { none = λ more a. apart (sym h ∙ distinct_not names more name a.distinct) }
+  where
+    apart : true ≡ false → ⊥
+    apart e = cc
+
+not_true : (b : Bool) → true ≡ not b → b ≡ false
+not_true true h = cc
+not_true false h = refl
+
+not_false : (b : Bool) → false ≡ not b → b ≡ true
+not_false true h = refl
+not_false false h = cc
+
+pub declare_both : {X : Type 0} (f : X → List ℕ) (old new : List X) (v : X) (name : List ℕ) (added : Bool) → AreNames (map f old) → length old < most_signals → f v ≡ name
+    → added ≡ not (list_any (λ k. bytes_eq (f v) (f k)) old) → new ≡ (if list_any (λ k. bytes_eq (f v) (f k)) old then old else old ++ v ∷ [])
+    → MatchBool added (Declared (map f old) (map f new) name) (IsRefused (map f old) name)
+declare_both f old new v name true a l e h k =
+    let b = not_true (list_any (λ x. bytes_eq (f v) (f x)) old) h in
+    let n = length_map f old in
+    declared_new (map f old) (map f new) name a (omega arith)
+    (ap (λ w. list_any (bytes_eq w) (map f old)) (sym e) ∙ sym (any_map (bytes_eq (f v)) f old) ∙ b)
+    (ap (map f) (k ∙ ap (λ c. if c then old else old ++ v ∷ []) b) ∙ map-append f old (v ∷ []) ∙ ap (λ w. map f old ++ w ∷ []) e)
+declare_both f old new v name false a l e h k =
+    let b = not_false (list_any (λ x. bytes_eq (f v) (f x)) old) h in
+    refused_repeated (map f old) name (ap (λ w. list_any (bytes_eq w) (map f old)) (sym e) ∙ sym (any_map (bytes_eq (f v)) f old) ∙ b)

@@ -1,0 +1,138 @@
+-- Small programs, their ticks and their runs.
+use Rattle.std.proofs.Common.{◌≡◌, ℕ, zero, suc, ◌<◌, ◌≤◌, pos, List, [], ◌∷◌, refl, sym, ap, arith}
+use Rattle.std.specs.Prelude.{Option, Some, None, codes, decimal}
+use Rattle.std.proofs.lemmas.Fmt.{decimal_digit}
+use Rattle.kernel_terms.specs.Statements.{Stmt, Nothing, Pause, Emit, Seq}
+use Rattle.tick_log.specs.Runs.{Going, Ended, LogState}
+use Rattle.sj_main.specs.definitions.Signals.{Emission, Status, Env, is_emitted}
+use Rattle.sj_main.specs.definitions.TickRule.{Tick, Ticks}
+use Rattle.sj_main.specs.definitions.LegalTick.{IsLegalTick}
+use Rattle.sj_main.specs.definitions.Tokens.{Spells}
+use Rattle.sj_main.specs.definitions.Grammar.{Done, PauseThen, EmitThen, Program, program_tokens}
+use Rattle.sj_main.specs.definitions.Accepted.{IsSourceOf}
+use Rattle.sj_main.specs.definitions.Verdicts.{IsRunOf}
+
+abbrev empty_source : List ℕ
+empty_source = codes "system{interface{}{}}"
+
+empty_spelled : Spells empty_source (program_tokens (record { signals = []; body = Done }))
+empty_spelled = (_, refl, (_, refl, (_, refl, (_, refl, (_, refl, (_, refl, (_, refl, (_, refl, refl))))))))
+
+empty_is_source : IsSourceOf empty_source (record { signals = []; body = Done })
+empty_is_source = record {
+  size = omega arith;
+  spells = empty_spelled;
+  rules = record { names = record { distinct = refl; signals = omega arith; declared = tt; depth = omega arith }; loops = tt; weight = omega arith };
+}
+
+-- a tick in which the only signal is emitted
+shown_alone : (o : Tick) → o.emits ≡ record { signal = 0; value = pos 0 } ∷ [] → (s : ℕ) → s < 1 → Rattle.std.specs.Prelude.slice_index_or (Some (pos 0) ∷ []) s None ≡ Rattle.sj_main.specs.definitions.Signals.shown (record { present = is_emitted (record { signal = 0; value = pos 0 } ∷ []) s; value = pos 0 })
+shown_alone o e zero h = refl
+shown_alone o e (suc s) h = absurd (omega arith)
+
+no_signal : (p : Stmt) (o : Tick) → ((env : Env) → Ticks p env o) → o.code ≤ 1 → IsLegalTick p 0 [] o
+no_signal p o t c = record {
+  env = λ s. record { present = is_emitted o.emits s; value = pos 0 };
+  ticks = t (λ s. record { present = is_emitted o.emits s; value = pos 0 });
+  coherent = record { present = λ s h. refl; pure = λ s h. refl };
+  code = c;
+  count = refl;
+  shows = λ s h. absurd (omega arith);
+}
+
+one_signal : (p : Stmt) (o : Tick) → o.emits ≡ record { signal = 0; value = pos 0 } ∷ [] → ((env : Env) → Ticks p env o) → o.code ≤ 1 → IsLegalTick p 1 (Some (pos 0) ∷ []) o
+one_signal p o e t c = record {
+  env = λ s. record { present = is_emitted (record { signal = 0; value = pos 0 } ∷ []) s; value = pos 0 };
+  ticks = t (λ s. record { present = is_emitted (record { signal = 0; value = pos 0 } ∷ []) s; value = pos 0 });
+  coherent = record { present = λ s h. ap (λ m. is_emitted m s) (sym e); pure = λ s h. refl };
+  code = c;
+  count = refl;
+  shows = shown_alone o e;
+}
+
+abbrev ends_at_once : Tick
+ends_at_once = record { code = 0; rest = Nothing; emits = [] }
+
+zero_text : decimal 0 ≡ 48 ∷ []
+zero_text = decimal_digit 0 (omega arith)
+
+one_text : decimal 1 ≡ 49 ∷ []
+one_text = decimal_digit 1 (omega arith)
+
+two_text : decimal 2 ≡ 50 ∷ []
+two_text = decimal_digit 2 (omega arith)
+
+pub nothing_in_one_turn : IsRunOf empty_source 1 (codes "domain 0 ticks 1 ended\n1 @1\n")
+nothing_in_one_turn = record {
+  program = record { signals = []; body = Done };
+  source = empty_is_source;
+  logs = record { entries = record { stamp = 1; statuses = [] } ∷ []; mark = Ended; signals = 0; room = 0 } ∷ [];
+  run = record {
+    log = record { entries = record { stamp = 1; statuses = [] } ∷ []; mark = Ended; signals = 0; room = 0 };
+    only = refl;
+    takes = (ends_at_once, [], [], no_signal Nothing ends_at_once (λ env. refl) (omega arith), refl, (refl, refl));
+  };
+  is = rw (zero_text, one_text) refl;
+}
+
+pub nothing_in_no_turn : IsRunOf empty_source 0 (codes "domain 0 ticks 0 paused\n")
+nothing_in_no_turn = record {
+  program = record { signals = []; body = Done };
+  source = empty_is_source;
+  logs = record { entries = []; mark = Going; signals = 0; room = 0 } ∷ [];
+  run = record { log = record { entries = []; mark = Going; signals = 0; room = 0 }; only = refl; takes = (refl, refl) };
+  is = rw zero_text refl;
+}
+
+abbrev blink_source : List ℕ
+blink_source = codes "system{interface{output signal A;}{emit A;pause;emit A;}}"
+
+abbrev blink : Program
+blink = record { signals = (65 ∷ []) ∷ []; body = EmitThen (65 ∷ []) (PauseThen (EmitThen (65 ∷ []) Done)) }
+
+blink_spelled : Spells blink_source (program_tokens blink)
+blink_spelled = (_, refl, (_, refl, (_, refl, (_, refl, (_, refl, (_, refl, (_, refl, (_, refl, (_, refl, (_, refl, (_, refl, (_, refl, (_, refl, (_, refl, (_, refl, (_, refl, (_, refl, (_, refl, (_, refl, (_, refl, refl))))))))))))))))))))
+
+abbrev first_blink : Tick
+first_blink = record { code = 1; rest = Seq Nothing (Emit 0); emits = record { signal = 0; value = pos 0 } ∷ [] }
+
+abbrev second_blink : Tick
+second_blink = record { code = 0; rest = Nothing; emits = record { signal = 0; value = pos 0 } ∷ [] }
+
+abbrev pauses : Tick
+pauses = record { code = 1; rest = Nothing; emits = [] }
+
+first_ticks : (env : Env) → Ticks (Seq (Emit 0) (Seq Pause (Emit 0))) env first_blink
+first_ticks env = (second_blink, refl, (record { code = 1; rest = Seq Nothing (Emit 0); emits = [] }, (pauses, refl, refl), refl))
+
+second_ticks : (env : Env) → Ticks (Seq Nothing (Emit 0)) env second_blink
+second_ticks env = (ends_at_once, refl, (second_blink, refl, refl))
+
+abbrev blink_log : LogState
+blink_log = record { entries = record { stamp = 1; statuses = Some (pos 0) ∷ [] } ∷ record { stamp = 2; statuses = Some (pos 0) ∷ [] } ∷ []; mark = Ended; signals = 1; room = 1 }
+
+pub blink_in_three_turns : IsRunOf blink_source 3 (codes "domain 0 ticks 2 ended\n1 @1 A\n2 @2 A\n")
+blink_in_three_turns = record {
+  program = blink;
+  source = record {
+    size = omega arith;
+    spells = blink_spelled;
+    rules = record { names = record { distinct = refl; signals = omega arith; declared = (refl, (refl, tt)); depth = omega arith }; loops = (tt, (tt, tt)); weight = omega arith };
+  };
+  logs = blink_log ∷ [];
+  run = record {
+    log = blink_log;
+    only = refl;
+    takes = (
+      first_blink,
+      Some (pos 0) ∷ [],
+      record { stamp = 2; statuses = Some (pos 0) ∷ [] } ∷ [],
+      one_signal (Seq (Emit 0) (Seq Pause (Emit 0))) first_blink refl first_ticks (omega arith),
+      refl,
+      (second_blink, Some (pos 0) ∷ [], [], one_signal (Seq Nothing (Emit 0)) second_blink refl second_ticks (omega arith), refl, (refl, refl)),
+    );
+  };
+  is = rw (zero_text, one_text, two_text) refl;
+}
+
+pub ruleset rows = (blink_in_three_turns, nothing_in_one_turn, nothing_in_no_turn)

@@ -1,0 +1,21 @@
+use Rattle.sj_main.specs.ReadingTokens.{tokens_of}
+use Rattle.sj_main.specs.ReadingNames.{names_of}
+use Rattle.sj_main.proofs.ReadPrograms.{ports_end, ports_none, ports_refused, ports_more}
+use Rattle.sj_main.proofs.reader.ports.ports.Goals as goal
+
+pub returns-in-Some : goal.returns-in-Some
+returns-in-Some c = ports_end (tokens_of c.args.tokens.now) (tokens_of c.loop-rest.front.now) (tokens_of c.in-Some.rest.now) (names_of c.loop-rest.names) c.loop-rest.invariant c.in-Some.ensures
+
+pub returns-in_default-port : goal.returns-in_default-port
+returns-in_default-port c = ports_none (tokens_of c.args.tokens.now) (tokens_of c.loop-rest.front.now) (names_of c.loop-rest.names) c.loop-rest.invariant c.in_default.ensures c.in_default-port.ensures
+
+pub returns-then-not-branch : goal.returns-then-not-branch
+returns-then-not-branch c =
+    let r = rw c.bytes.ensures at (rw c.if-not-branch.true at c.in_ok-declare.ensures) in
+    ports_refused (tokens_of c.args.tokens.now) (tokens_of c.loop-rest.front.now) (tokens_of c.in-Some-port.found.rest.now) (names_of c.loop-rest.names) c.in-Some-port.found.name.now c.loop-rest.invariant c.in-Some-port.ensures r
+
+pub loop-rest-preserved : goal.loop-rest-preserved
+loop-rest-preserved c =
+    let r = rw c.bytes.ensures at (rw c.if-not-branch.false at c.in_ok-declare.ensures) in
+    ports_more (tokens_of c.args.tokens.now) (tokens_of c.loop-rest.front.now) (tokens_of c.in-Some-port.found.rest.now) (names_of c.loop-rest.names) (names_of c.declare.new.self) c.in-Some-port.found.name.now
+    c.loop-rest.invariant c.in-Some-port.ensures r

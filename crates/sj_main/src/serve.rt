@@ -1,0 +1,88 @@
+// The top call.
+
+ghost use Rattle.std.specs.Prelude.{◌≡◌, ◌≢◌, ◌⊎◌, ◌≤◌, ℕ, List, IfSome, codes};
+ghost use Rattle.sj_io.specs.Causes.{Rose};
+ghost use Rattle.sj_io.specs.Sinks.{TakesMore, TakesFront};
+ghost use Rattle.sj_main.specs.Words.{word_list};
+ghost use Rattle.sj_main.specs.Orders.{PrintsRun, PrintsRefusal, FailsToRead, BeginsAnswer, BeginsOrder};
+ghost use Rattle.sj_main.specs.definitions.Commands.{IsNoCommand};
+ghost use Rattle.sj_main.specs.definitions.Verdicts.{usage_line, OrdersSuch};
+
+use crate::commands::read_order;
+use crate::order::{OrderError, order};
+use sj_io::{Files, Sink, write_all};
+use std::alloc::Global;
+use tick_log::print;
+
+const USAGE: &[u8] =
+    b"usage: check FILE | order FILE TURNS INPUTS | run FILE TICKS INPUTS | verify FILE TICKS INPUTS RUN | gen NUMBER TICKS\n";
+
+/// Writes one line, and answers its status, or 4 where the sink fails.
+pub fn answer<K: Sink>(out: &mut K, line: &[u8], status: u8) -> u8
+    requires { status ≢ 4 }
+    ensures status { (result ≡ status) ⊎ (result ≡ 4) }
+    ensures ok { result ≢ 4 → TakesMore (K.taken out.old) (K.taken out.new) line.now }
+    ensures fault { result ≡ 4 → Rose (K.faults out.old) (K.faults out.new) }
+    ensures front { result ≡ 4 → TakesFront (K.taken out.old) (K.taken out.new) line.now }
+{
+    match write_all(out, line) {
+        Ok(()) => status,
+        Err(_) => 4,
+    }
+}
+
+// Runs the order of a file and so many turns.
+fn serve_order<F: Files, K: Sink>(
+    alloc: Global,
+    file: &str,
+    turns: u32,
+    files: &mut F,
+    out: &mut K,
+) -> u8
+    ensures statuses { (result ≡ 0) ⊎ (result ≡ 1) ⊎ (result ≡ 3) ⊎ (result ≡ 4) ⊎ (result ≡ 5) }
+    ensures done { result ≡ 0 → IfSome (F.told files.old file.now) (λ bytes. PrintsRun bytes turns (K.taken out.old) (K.taken out.new)) }
+    ensures refused { result ≡ 1 → IfSome (F.told files.old file.now) (λ bytes. PrintsRefusal bytes (K.taken out.old) (K.taken out.new)) }
+    ensures read_fault { result ≡ 3 → Rose (F.faults files.old file.now) (F.faults files.new file.now) × TakesMore (K.taken out.old) (K.taken out.new) (codes "read fault\n") }
+    ensures write_fault { result ≡ 4 → Rose (K.faults out.old) (K.faults out.new) × BeginsOrder (F.told files.old file.now) turns (K.taken out.old) (K.taken out.new) }
+    ensures no_memory { result ≡ 5 → TakesMore (K.taken out.old) (K.taken out.new) (codes "no memory\n") }
+{
+    match order(alloc, file, turns, files) {
+        Ok(made) => match print(&made.run, &made.system, out) {
+            Ok(()) => 0,
+            Err(_) => 4,
+        },
+        Err(OrderError::Fault) => answer(out, b"read fault\n", 3),
+        Err(OrderError::Size) => answer(out, b"refused Size\n", 1),
+        Err(OrderError::NotBuiltYet) => answer(out, b"refused Later\n", 1),
+        Err(OrderError::NoMemory) => answer(out, b"no memory\n", 5),
+    }
+}
+
+/// Does the command of the words over the files and the sink, and answers the status:
+///
+/// - 0: the sink took the text of the run of the turns;
+/// - 1: the source is refused, and the sink took the line of the refusal;
+/// - 2: the words are no command, and the sink took the usage line;
+/// - 3: a read of the named file failed, and the sink took `read fault`;
+/// - 4: a write failed, and the sink took a front of the text;
+/// - 5: an allocation was refused, and the sink took `no memory`.
+pub fn serve_plain<F: Files, K: Sink>(
+    alloc: Global,
+    words: &[String],
+    files: &mut F,
+    out: &mut K,
+) -> u8
+    ensures statuses { result ≤ 5 }
+    ensures done { result ≡ 0 → OrdersSuch (word_list words.now) (F.told files.old) (λ bytes turns. PrintsRun bytes turns (K.taken out.old) (K.taken out.new)) }
+    ensures refused { result ≡ 1 → OrdersSuch (word_list words.now) (F.told files.old) (λ bytes turns. PrintsRefusal bytes (K.taken out.old) (K.taken out.new)) }
+    ensures no_command { result ≡ 2 → IsNoCommand (word_list words.now) × TakesMore (K.taken out.old) (K.taken out.new) usage_line }
+    ensures usage { IsNoCommand (word_list words.now) → (result ≡ 2) ⊎ (result ≡ 4) }
+    ensures read_fault { result ≡ 3 → FailsToRead (word_list words.now) (F.faults files.old) (F.faults files.new) × TakesMore (K.taken out.old) (K.taken out.new) (codes "read fault\n") }
+    ensures write_fault { result ≡ 4 → Rose (K.faults out.old) (K.faults out.new) × BeginsAnswer (word_list words.now) (F.told files.old) (K.taken out.old) (K.taken out.new) }
+    ensures no_memory { result ≡ 5 → OrdersSuch (word_list words.now) (F.told files.old) (λ bytes turns. Unit {0}) × TakesMore (K.taken out.old) (K.taken out.new) (codes "no memory\n") }
+{
+    match read_order(words) {
+        Some(order) => serve_order(alloc, order.file, order.turns, files, out),
+        None => answer(out, USAGE, 2),
+    }
+}
