@@ -1,0 +1,4 @@
+pub mod CellLemmas
+pub mod CallLemmas
+pub mod EndLemmas
+pub mod HistoryLemmas

@@ -1,0 +1,4 @@
+pub mod Cells
+pub mod Histories
+pub mod Ends
+pub mod CellEnds

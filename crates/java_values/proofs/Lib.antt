@@ -1,0 +1,3 @@
+pub mod Wrapping
+pub mod Fitting
+pub mod InRange

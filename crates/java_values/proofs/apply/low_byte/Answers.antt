@@ -1,0 +1,7 @@
+use Rattle.std.proofs.Common.{rules}
+use Rattle.std.specs.Int.{w8}
+use Rattle.java_values.proofs.Wrapping.{low_bits_wrap}
+use Rattle.java_values.proofs.apply.low_byte.Goals as goal
+
+pub returns : goal.returns
+returns c = let h = low_bits_wrap w8 c.args.n in search (rules, h, c.cast_signed.ensures, c.rem_euclid.ensures.value)

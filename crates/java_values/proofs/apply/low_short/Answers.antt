@@ -1,0 +1,7 @@
+use Rattle.std.proofs.Common.{rules}
+use Rattle.std.specs.Int.{w16}
+use Rattle.java_values.proofs.Wrapping.{low_bits_wrap}
+use Rattle.java_values.proofs.apply.low_short.Goals as goal
+
+pub returns : goal.returns
+returns c = let h = low_bits_wrap w16 c.args.n in search (rules, h, c.cast_signed.ensures, c.rem_euclid.ensures.value)
