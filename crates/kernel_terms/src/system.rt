@@ -20,6 +20,7 @@ impl System {
     ghost use Rattle.kernel_terms.specs.WellFormed.{is_well_formed};
     ghost use Rattle.kernel_terms.specs.Systems.{tables_of, domains_of};
 
+    /// The system of these tables and domains, which are well formed.
     pub fn new(tables: Tables, domains: Items<Term>) -> System
         requires { is_well_formed tables domains ≡ true }
         ensures tables { tables_of result ≡ tables }
@@ -28,12 +29,14 @@ impl System {
         System { tables, domains }
     }
 
+    /// The names of the interface.
     pub fn tables(&self) -> &Tables
         ensures { result.now ≡ tables_of self.now }
     {
         &self.tables
     }
 
+    /// The statement of each clock domain, by rising number.
     pub fn domains(&self) -> &[Term]
         ensures { result.now ≡ domains_of self.now }
     {

@@ -1,14 +1,14 @@
 -- Small programs, their ticks and their runs.
-use Rattle.std.proofs.Common.{◌≡◌, ℕ, zero, suc, ◌<◌, ◌≤◌, pos, List, [], ◌∷◌, refl, sym, ap, arith}
+use Rattle.std.proofs.Common.{◌≡◌, ◌≢◌, ℕ, zero, suc, ◌<◌, ◌≤◌, pos, List, [], ◌∷◌, refl, sym, ap, arith}
 use Rattle.std.specs.Prelude.{Option, Some, None, codes, decimal}
 use Rattle.std.proofs.lemmas.Fmt.{decimal_digit}
-use Rattle.kernel_terms.specs.Statements.{Stmt, Nothing, Pause, Emit, Seq}
-use Rattle.tick_log.specs.Runs.{Going, Ended, LogState}
+use Rattle.kernel_terms.specs.Statements.{Stmt, Nothing, Pause, Emit, Seq, Loop}
+use Rattle.tick_log.specs.Runs.{Entry, Going, Ended, LogState}
 use Rattle.sj_main.specs.definitions.Signals.{Emission, Status, Env, is_emitted}
 use Rattle.sj_main.specs.definitions.TickRule.{Tick, Ticks}
 use Rattle.sj_main.specs.definitions.LegalTick.{IsLegalTick}
 use Rattle.sj_main.specs.definitions.Tokens.{Spells}
-use Rattle.sj_main.specs.definitions.Grammar.{Done, PauseThen, EmitThen, Program, program_tokens}
+use Rattle.sj_main.specs.definitions.Grammar.{Done, PauseThen, EmitThen, WhileThen, Program, program_tokens}
 use Rattle.sj_main.specs.definitions.Accepted.{IsSourceOf}
 use Rattle.sj_main.specs.definitions.Verdicts.{IsRunOf}
 
@@ -135,4 +135,116 @@ blink_in_three_turns = record {
   is = rw (zero_text, one_text, two_text) refl;
 }
 
-pub ruleset rows = (blink_in_three_turns, nothing_in_one_turn, nothing_in_no_turn)
+abbrev loop_source : List ℕ
+loop_source = codes "system{interface{output signal A;output signal B;}{while(true){emit A;pause;emit B;}}}"
+
+abbrev looping : Program
+looping = record { signals = (65 ∷ []) ∷ (66 ∷ []) ∷ []; body = WhileThen (EmitThen (65 ∷ []) (PauseThen (EmitThen (66 ∷ []) Done))) Done }
+
+loop_spelled : Spells loop_source (program_tokens looping)
+loop_spelled = (_, refl, (_, refl, (_, refl, (_, refl, (_, refl, (_, refl, (_, refl, (_, refl, (_, refl, (_, refl, (_, refl, (_, refl, (_, refl, (_, refl, (_, refl, (_, refl, (_, refl, (_, refl, (_, refl, (_, refl, (_, refl, (_, refl, (_, refl, (_, refl, (_, refl, (_, refl, (_, refl, (_, refl, (_, refl, (_, refl, refl))))))))))))))))))))))))))))))
+
+abbrev of_signal : ℕ → Emission
+of_signal s = record { signal = s; value = pos 0 }
+
+abbrev loop_body : Stmt
+loop_body = Seq (Emit 0) (Seq Pause (Emit 1))
+
+abbrev after_pause : Stmt
+after_pause = Seq (Seq Nothing (Emit 1)) (Loop loop_body)
+
+abbrev emits_at_once : ℕ → Tick
+emits_at_once s = record { code = 0; rest = Nothing; emits = of_signal s ∷ [] }
+
+abbrev body_pauses : Tick
+body_pauses = record { code = 1; rest = Seq Nothing (Emit 1); emits = of_signal 0 ∷ [] }
+
+abbrev loop_starts : Tick
+loop_starts = record { code = 1; rest = after_pause; emits = of_signal 0 ∷ [] }
+
+abbrev loop_restarts : Tick
+loop_restarts = record { code = 1; rest = after_pause; emits = of_signal 1 ∷ of_signal 0 ∷ [] }
+
+one_is_not_zero : body_pauses.code ≢ 0
+one_is_not_zero e = absurd (omega arith)
+
+body_ticks : (env : Env) → Ticks loop_body env body_pauses
+body_ticks env = (emits_at_once 0, refl, (record { code = 1; rest = Seq Nothing (Emit 1); emits = [] }, (pauses, refl, refl), refl))
+
+start_ticks : (env : Env) → Ticks (Loop loop_body) env loop_starts
+start_ticks env = (body_pauses, body_ticks env, one_is_not_zero, refl)
+
+restart_ticks : (env : Env) → Ticks after_pause env loop_restarts
+restart_ticks env = (emits_at_once 1, (ends_at_once, refl, (emits_at_once 1, refl, refl)), (loop_starts, start_ticks env, refl))
+
+shown_first : (s : ℕ) → s < 2 → Rattle.std.specs.Prelude.slice_index_or (Some (pos 0) ∷ None ∷ []) s None ≡ Rattle.sj_main.specs.definitions.Signals.shown (record { present = is_emitted loop_starts.emits s; value = pos 0 })
+shown_first zero h = refl
+shown_first (suc zero) h = refl
+shown_first (suc (suc s)) h = absurd (omega arith)
+
+shown_both : (s : ℕ) → s < 2 → Rattle.std.specs.Prelude.slice_index_or (Some (pos 0) ∷ Some (pos 0) ∷ []) s None ≡ Rattle.sj_main.specs.definitions.Signals.shown (record { present = is_emitted loop_restarts.emits s; value = pos 0 })
+shown_both zero h = refl
+shown_both (suc zero) h = refl
+shown_both (suc (suc s)) h = absurd (omega arith)
+
+start_is_legal : IsLegalTick (Loop loop_body) 2 (Some (pos 0) ∷ None ∷ []) loop_starts
+start_is_legal = record {
+  env = λ s. record { present = is_emitted loop_starts.emits s; value = pos 0 };
+  ticks = start_ticks (λ s. record { present = is_emitted loop_starts.emits s; value = pos 0 });
+  coherent = record { present = λ s h. refl; pure = λ s h. refl };
+  code = omega arith;
+  count = refl;
+  shows = shown_first;
+}
+
+restart_is_legal : IsLegalTick after_pause 2 (Some (pos 0) ∷ Some (pos 0) ∷ []) loop_restarts
+restart_is_legal = record {
+  env = λ s. record { present = is_emitted loop_restarts.emits s; value = pos 0 };
+  ticks = restart_ticks (λ s. record { present = is_emitted loop_restarts.emits s; value = pos 0 });
+  coherent = record { present = λ s h. refl; pure = λ s h. refl };
+  code = omega arith;
+  count = refl;
+  shows = shown_both;
+}
+
+abbrev both_at : ℕ → Entry
+both_at stamp = record { stamp = stamp; statuses = Some (pos 0) ∷ Some (pos 0) ∷ [] }
+
+abbrev loop_log : LogState
+loop_log = record { entries = record { stamp = 1; statuses = Some (pos 0) ∷ None ∷ [] } ∷ both_at 2 ∷ both_at 3 ∷ []; mark = Going; signals = 2; room = 0 }
+
+three_text : decimal 3 ≡ 51 ∷ []
+three_text = decimal_digit 3 (omega arith)
+
+pub loop_in_three_turns : IsRunOf loop_source 3 (codes "domain 0 ticks 3 paused\n1 @1 A\n2 @2 A B\n3 @3 A B\n")
+loop_in_three_turns = record {
+  program = looping;
+  source = record {
+    size = omega arith;
+    spells = loop_spelled;
+    rules = record { names = record { distinct = refl; signals = omega arith; declared = ((refl, (refl, tt)), tt); depth = omega arith }; loops = (refl, (tt, (tt, tt))); weight = omega arith };
+  };
+  logs = loop_log ∷ [];
+  run = record {
+    log = loop_log;
+    only = refl;
+    takes = (
+      loop_starts,
+      Some (pos 0) ∷ None ∷ [],
+      both_at 2 ∷ both_at 3 ∷ [],
+      start_is_legal,
+      refl,
+      (
+        loop_restarts,
+        Some (pos 0) ∷ Some (pos 0) ∷ [],
+        both_at 3 ∷ [],
+        restart_is_legal,
+        refl,
+        (loop_restarts, Some (pos 0) ∷ Some (pos 0) ∷ [], [], restart_is_legal, refl, (refl, refl)),
+      ),
+    );
+  };
+  is = rw (zero_text, one_text, two_text, three_text) refl;
+}
+
+pub ruleset rows = (blink_in_three_turns, loop_in_three_turns, nothing_in_one_turn, nothing_in_no_turn)
