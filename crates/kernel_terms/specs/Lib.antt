@@ -1,5 +1,7 @@
-pub mod Names
+pub mod Expressions
 pub mod Statements
+pub mod TableEntries
 pub mod MayEnd
+pub mod Limits
 pub mod WellFormed
 pub mod Systems

@@ -1,17 +1,19 @@
 //! The statements of the kernel language, the tables of names and the systems made of them.
 #![tactic(auto)]
 
-mod no_memory;
+pub mod expr;
+mod laws;
+pub mod sig_test;
 mod system;
-mod tables;
+pub mod tables;
 pub mod term;
-mod text;
 
-pub use no_memory::NoMemory;
+pub use expr::{Expr, ExprForm};
+pub use laws::threads_share_systems;
+pub use sig_test::SigTest;
 pub use system::System;
-pub use tables::{SignalInfo, Tables};
+pub use tables::{ChannelInfo, Combine, SignalInfo, Sort, Tables, VariableInfo};
 pub use term::{Form, Term};
-pub use text::Text;
 
 #[cfg(test)]
 mod tests;

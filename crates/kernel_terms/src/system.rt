@@ -2,9 +2,7 @@ use crate::tables::Tables;
 use crate::term::Term;
 use sqlite_items::Items;
 
-/// A program: its tables, and one statement per clock domain. It is well formed: there is one domain,
-/// the names of the signals are names and differ, there are at most 1,024 of them, each emission names
-/// one, and no sequence is empty.
+/// A program: its tables, and one statement per clock domain, by rising number. It is well formed.
 #[derive(Drop)]
 pub struct System {
     tables: Tables,
@@ -29,7 +27,7 @@ impl System {
         System { tables, domains }
     }
 
-    /// The names of the interface.
+    /// The signals, channels and variables.
     pub fn tables(&self) -> &Tables
         ensures { result.now ≡ tables_of self.now }
     {
