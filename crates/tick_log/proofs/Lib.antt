@@ -1,3 +1,5 @@
 pub mod Statuses
 pub mod Entries
 pub mod Texts
+pub mod Interfaces
+pub mod Lines

@@ -1,6 +1,7 @@
--- How a log is kept: the stamps, and the statuses of all ticks in one list.
+-- How a log is kept: the stamps, and the statuses of all ticks in one list. How a history is kept.
 use Rattle.std.specs.Prelude.{◌≡◌, ℕ, ◌+◌, ◌*◌, ◌^◌, ◌<◌, ◌≤◌, ℤ, Bool, true, List, [], ◌∷◌, take, drop, Option, Vec, vec_len, vec_capacity}
 use Rattle.std.specs.Global.{Global}
+use Rattle.tick_log.specs.declared.history.JoinRow.{JoinRow}
 use Rattle.tick_log.specs.Runs.{Entry}
 
 -- the entries of so many signals each
@@ -17,3 +18,8 @@ pub record Keeps (stamps : Vec ℕ Global) (statuses : Vec (Option ℤ) Global) 
   pub places : signals * (vec_len stamps + room) ≤ vec_capacity statuses
   pub fits : vec_len stamps + room < 2 ^ 32
   pub last : ended ≡ true → 1 ≤ vec_len stamps
+
+-- memory for the joins that there is room for
+pub record KeepsRows (rows : Vec JoinRow Global) (room : ℕ) : Type 0 where
+  pub places : vec_len rows + room ≤ vec_capacity rows
+  pub fits : vec_len rows + room < 2 ^ 32

@@ -1,10 +1,14 @@
-//! Logs of ticks, runs and their text.
+//! Logs of ticks, histories of channels, runs and their text.
 #![tactic(auto)]
 
+mod history;
 mod log;
+mod run;
 #[cfg(test)]
 mod tests;
 mod text;
 
-pub use log::{Log, Run};
+pub use history::{History, JoinRow};
+pub use log::Log;
+pub use run::Run;
 pub use text::print;

@@ -1,7 +1,7 @@
 ghost use Rattle.std.specs.Prelude.{◌≡◌, ◌+◌, ◌-◌, ◌<◌, ◌≤◌, [], ◌∷◌, ◌++◌, length, IfOk, IsOk, IsTrue, cond, slice_index_or, Some, None, vec_len, vec_capacity};
 ghost use Rattle.tick_log.specs.Runs.{Going, mark_of, statuses_of, entry_at};
 
-use kernel_terms::NoMemory;
+use java_values::NoMemory;
 use std::alloc::Global;
 use std::marker::Model;
 
@@ -126,17 +126,11 @@ fn status_of(is_present: bool, value: i64) -> Option<i64>
 }
 
 // Adds an item, into memory that is there already.
-fn push_within<T: Drop>(items: &mut Vec<T>, item: T)
+pub fn push_within<T: Drop>(items: &mut Vec<T>, item: T)
     requires { vec_len items.old < vec_capacity items.old }
     ensures items { items.new.items ≡ items.old.items ++ item ∷ [] }
     ensures len { vec_len items.new ≡ vec_len items.old + 1 }
     ensures capacity { vec_capacity items.old ≤ vec_capacity items.new }
 {
     let _ = items.push(item);
-}
-
-/// The logs of all domains, by rising number.
-#[derive(Drop)]
-pub struct Run {
-    pub domains: Vec<Log>,
 }

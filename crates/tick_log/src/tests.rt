@@ -1,82 +1,68 @@
-ghost use Rattle.std.specs.Prelude.{◌≡◌, IfOk, length};
+ghost use Rattle.std.specs.Prelude.{◌≡◌, true, [], ◌∷◌, length, IfOk, codes};
 ghost use Rattle.kernel_terms.specs.Systems.{tables_of, domains_of};
-ghost use Rattle.kernel_terms.specs.WellFormed.{signal_names};
+ghost use Rattle.kernel_terms.specs.WellFormed.{is_well_formed};
+ghost use Rattle.kernel_terms.specs.TableEntries.{channel_at};
+ghost use Rattle.tick_log.specs.Fits.{IsLog, IsHistory};
 
-use crate::{Log, Run, print};
-use kernel_terms::{Form, NoMemory, SignalInfo, System, Tables, Term, Text};
+use crate::{History, JoinRow, Log, Run, print};
+use java_values::{Kind, NoMemory, Text};
+use kernel_terms::{ChannelInfo, Combine, Form, SignalInfo, Sort, System, Tables, Term};
 use sj_io::{MemSink, WriteError};
-use sqlite_items::Items;
+use sqlite_items::{Boxed, Items};
 use std::alloc::Global;
 use std::test::Fail;
 
-fn signal(alloc: Global, name: &[u8]) -> Result<SignalInfo, NoMemory>
-    ensures { IfOk result (λ s. s.name ≡ name.now) }
+fn signal(
+    alloc: Global,
+    name: &[u8],
+    domain: u32,
+    sort: Sort,
+    kind: Option<Kind>,
+    combine: Combine,
+) -> Result<SignalInfo, NoMemory>
+    ensures { IfOk result (λ s. s ≡ record { name = name.now; domain = domain; sort = sort; kind = kind; combine = combine }) }
 {
     let name = Text::new(alloc, name)?;
-    Ok(SignalInfo { name })
+    Ok(SignalInfo {
+        name,
+        domain,
+        sort,
+        kind,
+        combine,
+    })
 }
 
-// One domain, over the signal `A`.
-fn one_signal(alloc: Global) -> Result<System, NoMemory>
-    ensures domains { IfOk result (λ s. length (domains_of s) ≡ 1) }
-    ensures signals { IfOk result (λ s. length (signal_names (tables_of s)) ≡ 1) }
+// A statement of this form.
+fn term(form: Form) -> Term
+    ensures { result ≡ record { at = 0; form = form } }
 {
-    let a = signal(alloc, b"A")?;
-    let mut signals = Vec::new(alloc);
-    signals.push(a)?;
-    let mut domains = Vec::new(alloc);
-    domains.push(Term {
-        at: 0,
-        form: Form::Nothing,
-    })?;
+    Term { at: 0, form }
+}
+
+// The system of these signals and channels, whose domains are these statements.
+fn system_of(
+    alloc: Global,
+    domains: Vec<Term>,
+    signals: Vec<SignalInfo>,
+    channels: Vec<ChannelInfo>,
+) -> System
+    requires well_formed { is_well_formed (record { signals = signals.items; channels = channels.items; variables = [] }) domains.items ≡ true }
+    ensures tables { tables_of result ≡ record { signals = signals.items; channels = channels.items; variables = [] } }
+    ensures domains { domains_of result ≡ domains.items }
+{
     let tables = Tables {
         signals: Items::from_vec(signals),
+        channels: Items::from_vec(channels),
+        variables: Items::new(alloc),
     };
-    Ok(System::new(tables, Items::from_vec(domains)))
+    System::new(tables, Items::from_vec(domains))
 }
 
-// One domain, over the signals `A` and `B`.
-fn two_signals(alloc: Global) -> Result<System, NoMemory>
-    ensures domains { IfOk result (λ s. length (domains_of s) ≡ 1) }
-    ensures signals { IfOk result (λ s. length (signal_names (tables_of s)) ≡ 2) }
-{
-    let a = signal(alloc, b"A")?;
-    let b = signal(alloc, b"B")?;
-    let mut signals = Vec::new(alloc);
-    signals.push(a)?;
-    signals.push(b)?;
-    let mut domains = Vec::new(alloc);
-    domains.push(Term {
-        at: 0,
-        form: Form::Nothing,
-    })?;
-    let tables = Tables {
-        signals: Items::from_vec(signals),
-    };
-    Ok(System::new(tables, Items::from_vec(domains)))
-}
-
-// A sink of 64 bytes that takes 5 bytes a call. The calls of these numbers fail.
+// A sink of 128 bytes that takes 5 bytes a call. The calls of these numbers fail.
 fn sink_of(alloc: Global, fail: &[u64]) -> Result<MemSink, NoMemory> {
     let fail = fail.to_vec(alloc)?;
-    let space = [0u8; 64].to_vec(alloc)?;
+    let space = [0u8; 128].to_vec(alloc)?;
     Ok(MemSink::new(5, fail, space))
-}
-
-// Prints the run of one log.
-fn print_one(
-    alloc: Global,
-    log: Log,
-    system: &System,
-    out: &mut MemSink,
-) -> Result<Result<(), WriteError>, NoMemory>
-    requires domains { length (domains_of system.now) ≡ 1 }
-    requires signals { log.signals ≡ length (signal_names (tables_of system.now)) }
-{
-    let mut domains = Vec::new(alloc);
-    domains.push(log)?;
-    let run = Run { domains };
-    Ok(print(&run, system, out))
 }
 
 #[test]
@@ -94,6 +80,135 @@ fn a_log_gives_back_what_was_pushed(rt: HostRuntime) -> Result<(), Fail> {
     assert_eq!(rt; log.status(2, 0), None);
     assert_eq!(rt; log.status(2, 1), Some(-2));
     Ok(())
+}
+
+#[test]
+fn a_history_keeps_its_rows_in_order(rt: HostRuntime) -> Result<(), Fail> {
+    let first = JoinRow {
+        value: -3,
+        sender_ticks: 1,
+        receiver_ticks: 2,
+        stamp: 4,
+    };
+    let second = JoinRow {
+        value: 9,
+        sender_ticks: 5,
+        receiver_ticks: 3,
+        stamp: 8,
+    };
+    let mut history = History::open(rt.alloc(), 3)?;
+    history.push(first);
+    history.push(second);
+    assert_eq!(rt; history.len(), 2);
+    assert_eq!(rt; history.row(1), first);
+    assert_eq!(rt; history.row(2), second);
+    Ok(())
+}
+
+// One domain, over the signal `A`.
+fn one_signal(alloc: Global) -> Result<System, NoMemory>
+    ensures tables { IfOk result (λ s. tables_of s ≡ record { signals = record { name = codes "A"; domain = 0; sort = Sort.Output; kind = None; combine = Combine.Max } ∷ []; channels = []; variables = [] }) }
+    ensures domains { IfOk result (λ s. length (domains_of s) ≡ 1) }
+{
+    let a = signal(alloc, b"A", 0, Sort::Output, None, Combine::Max)?;
+    let signals = vec![in alloc; a]?;
+    let domains = vec![in alloc; term(Form::Nothing)]?;
+    Ok(system_of(alloc, domains, signals, Vec::new(alloc)))
+}
+
+// One domain, over the signals `A` and `B`.
+fn two_signals(alloc: Global) -> Result<System, NoMemory>
+    ensures tables { IfOk result (λ s. tables_of s ≡ record { signals = record { name = codes "A"; domain = 0; sort = Sort.Input; kind = None; combine = Combine.Max } ∷ record { name = codes "B"; domain = 0; sort = Sort.Output; kind = None; combine = Combine.Max } ∷ []; channels = []; variables = [] }) }
+    ensures domains { IfOk result (λ s. length (domains_of s) ≡ 1) }
+{
+    let a = signal(alloc, b"A", 0, Sort::Input, None, Combine::Max)?;
+    let b = signal(alloc, b"B", 0, Sort::Output, None, Combine::Max)?;
+    let signals = vec![in alloc; a, b]?;
+    let domains = vec![in alloc; term(Form::Nothing)]?;
+    Ok(system_of(alloc, domains, signals, Vec::new(alloc)))
+}
+
+// One domain, over the valued signals `P`, `N` and `C`.
+fn valued_signals(alloc: Global) -> Result<System, NoMemory>
+    ensures tables { IfOk result (λ s. tables_of s ≡ record { signals = record { name = codes "P"; domain = 0; sort = Sort.Input; kind = Some Kind.Boolean; combine = Combine.Or } ∷ record { name = codes "N"; domain = 0; sort = Sort.Output; kind = Some Kind.Int; combine = Combine.Max } ∷ record { name = codes "C"; domain = 0; sort = Sort.Output; kind = Some Kind.Char; combine = Combine.Max } ∷ []; channels = []; variables = [] }) }
+    ensures domains { IfOk result (λ s. length (domains_of s) ≡ 1) }
+{
+    let p = signal(
+        alloc,
+        b"P",
+        0,
+        Sort::Input,
+        Some(Kind::Boolean),
+        Combine::Or,
+    )?;
+    let n = signal(alloc, b"N", 0, Sort::Output, Some(Kind::Int), Combine::Max)?;
+    let c = signal(alloc, b"C", 0, Sort::Output, Some(Kind::Char), Combine::Max)?;
+    let signals = vec![in alloc; p, n, c]?;
+    let domains = vec![in alloc; term(Form::Nothing)]?;
+    Ok(system_of(alloc, domains, signals, Vec::new(alloc)))
+}
+
+// Domain 0 sends on the channel `C` and has the signal `D` and a local signal; domain 1 receives and
+// has the signal `B`.
+fn two_domains(alloc: Global) -> Result<System, NoMemory>
+    ensures tables { IfOk result (λ s. tables_of s ≡ record { signals = record { name = codes "B"; domain = 1; sort = Sort.Output; kind = Some Kind.Int; combine = Combine.Max } ∷ record { name = codes "D"; domain = 0; sort = Sort.Output; kind = None; combine = Combine.Max } ∷ record { name = codes "L"; domain = 0; sort = Sort.Local; kind = None; combine = Combine.Max } ∷ []; channels = record { name = codes "C"; kind = Kind.Int; sender = 0; receiver = 1 } ∷ []; variables = [] }) }
+    ensures domains { IfOk result (λ s. length (domains_of s) ≡ 2) }
+{
+    let b = signal(alloc, b"B", 1, Sort::Output, Some(Kind::Int), Combine::Max)?;
+    let d = signal(alloc, b"D", 0, Sort::Output, None, Combine::Max)?;
+    let l = signal(alloc, b"L", 0, Sort::Local, None, Combine::Max)?;
+    let signals = vec![in alloc; b, d, l]?;
+    let channel = ChannelInfo {
+        name: Text::new(alloc, b"C")?,
+        kind: Kind::Int,
+        sender: 0,
+        receiver: 1,
+    };
+    let channels = vec![in alloc; channel]?;
+    let body = Boxed::new(alloc, term(Form::Nothing))?;
+    let local = term(Form::Local { signal: 2, body });
+    let domains = vec![in alloc; local, term(Form::Nothing)]?;
+    Ok(system_of(alloc, domains, signals, channels))
+}
+
+// Prints the run of one log.
+fn print_one(
+    alloc: Global,
+    log: Log,
+    system: &System,
+    out: &mut MemSink,
+) -> Result<Result<(), WriteError>, NoMemory>
+    requires domains { length (domains_of system.now) ≡ 1 }
+    requires channels { (tables_of system.now).channels ≡ [] }
+    requires log { IsLog (tables_of system.now) 0 log }
+{
+    let run = Run {
+        domains: vec![in alloc; log]?,
+        channels: Vec::new(alloc),
+    };
+    Ok(print(&run, system, out))
+}
+
+// Prints the run of two logs and one history.
+fn print_two(
+    alloc: Global,
+    first: Log,
+    second: Log,
+    history: History,
+    system: &System,
+    out: &mut MemSink,
+) -> Result<Result<(), WriteError>, NoMemory>
+    requires domains { length (domains_of system.now) ≡ 2 }
+    requires channels { length (tables_of system.now).channels ≡ 1 }
+    requires first { IsLog (tables_of system.now) 0 first }
+    requires second { IsLog (tables_of system.now) 1 second }
+    requires history { IsHistory (channel_at (tables_of system.now) 0).kind history }
+{
+    let run = Run {
+        domains: vec![in alloc; first, second]?,
+        channels: vec![in alloc; history]?,
+    };
+    Ok(print(&run, system, out))
 }
 
 #[test]
@@ -128,12 +243,53 @@ fn prints_only_the_signals_that_were_present(rt: HostRuntime) -> Result<(), Fail
 }
 
 #[test]
+fn prints_values_by_their_kinds(rt: HostRuntime) -> Result<(), Fail> {
+    let system = valued_signals(rt.alloc())?;
+    let mut log = Log::open(rt.alloc(), 3, 2)?;
+    log.push(1, &[true, true, true], &[1, -7, 65], false);
+    log.push(4, &[true, true, false], &[0, -2147483648, 9], false);
+    let mut out = sink_of(rt.alloc(), &[])?;
+    assert_eq!(rt; print_one(rt.alloc(), log, &system, &mut out)?, Ok(()));
+    assert_eq!(rt;
+        out.bytes(),
+        b"domain 0 ticks 2 paused\n1 @1 P=true N=-7 C=65\n2 @4 P=false N=-2147483648\n".as_slice()
+    );
+    Ok(())
+}
+
+#[test]
 fn prints_an_empty_log_as_paused(rt: HostRuntime) -> Result<(), Fail> {
     let system = one_signal(rt.alloc())?;
     let log = Log::open(rt.alloc(), 1, 0)?;
     let mut out = sink_of(rt.alloc(), &[])?;
     assert_eq!(rt; print_one(rt.alloc(), log, &system, &mut out)?, Ok(()));
     assert_eq!(rt; out.bytes(), b"domain 0 ticks 0 paused\n".as_slice());
+    Ok(())
+}
+
+#[test]
+fn one_rendezvous(rt: HostRuntime) -> Result<(), Fail> {
+    let system = two_domains(rt.alloc())?;
+    let mut first = Log::open(rt.alloc(), 1, 2)?;
+    first.push(1, &[false], &[0], false);
+    first.push(3, &[true], &[0], true);
+    let mut second = Log::open(rt.alloc(), 1, 2)?;
+    second.push(1, &[false], &[0], false);
+    second.push(3, &[true], &[5], true);
+    let mut history = History::open(rt.alloc(), 1)?;
+    history.push(JoinRow {
+        value: 5,
+        sender_ticks: 1,
+        receiver_ticks: 1,
+        stamp: 2,
+    });
+    let mut out = sink_of(rt.alloc(), &[])?;
+    let printed = print_two(rt.alloc(), first, second, history, &system, &mut out)?;
+    assert_eq!(rt; printed, Ok(()));
+    assert_eq!(rt;
+        out.bytes(),
+        b"domain 0 ticks 2 ended\n1 @1\n2 @3 D\ndomain 1 ticks 2 ended\n1 @1\n2 @3 B=5\nchannel C 1\n1 5 1 1 @2\n".as_slice()
+    );
     Ok(())
 }
 

@@ -5,4 +5,4 @@ pub returns : goal.returns
 returns g c =
     let number = rw c.from.ensures at c.put_number-numbered.ensures in
     let stamp = rw c.stamp.ensures at c.put_number-stamped.ensures in
-    puts_both _ _ _ _ _ _ _ _ _ _ _ (puts_both _ _ _ _ _ _ _ _ _ _ _ (puts_both _ _ _ _ _ _ _ _ _ _ _ (puts_both _ _ _ _ _ _ _ _ _ _ _ number c.put-marked.ensures) stamp) c.put_names-named.ensures) c.put.ensures
+    puts_both _ _ _ _ _ _ _ _ _ _ _ (puts_both _ _ _ _ _ _ _ _ _ _ _ (puts_both _ _ _ _ _ _ _ _ _ _ _ (puts_both _ _ _ _ _ _ _ _ _ _ _ number c.put-marked.ensures) stamp) c.put_signals-named.ensures) c.put.ensures
