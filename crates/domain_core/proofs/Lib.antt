@@ -1,0 +1,12 @@
+pub mod Joins
+pub mod Order
+pub mod Stamps
+pub mod Places
+pub mod Cuts
+pub mod StampBound
+pub mod AnyOrder
+pub mod StepEffects
+pub mod Converse
+pub mod StepStamps
+pub mod Turns
+pub mod Rendezvous

@@ -1,0 +1,6 @@
+pub mod Systems
+pub mod LegalRuns
+pub mod OwnRuns
+pub mod StampBound
+pub mod Scheduled
+pub mod Rows

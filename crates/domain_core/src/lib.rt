@@ -1,0 +1,12 @@
+//! States and steps of a system of clock domains, legal runs, and the laws on them.
+#![tactic(auto)]
+
+mod laws;
+mod rows;
+
+pub use laws::{
+    legal_runs_have_own_runs, next_stamps_are_bounded, own_runs_are_legal,
+    scheduled_runs_are_whole, stamps_are_places, stamps_have_causes, stamps_have_no_gaps,
+    steps_are_legal,
+};
+pub use rows::{one_rendezvous, stamps_count_joins};
