@@ -1,15 +1,15 @@
 -- The builder's loop over the parts of a sequence.
 use Rattle.std.proofs.Common.{◌≡◌, ℕ, ◌+◌, ◌≤◌, Bool, true, false, ◌&&◌, ◌||◌, arith, List, [], ◌∷◌, ◌++◌, length, refl, sym, ap, ◌∙◌, subst, append_assoc, length-append}
 use Rattle.std.proofs.lemmas.List.{append-nil}
-use Rattle.kernel_terms.specs.Statements.{Stmt, statement}
+use Rattle.sj_main.specs.definitions.Plain.{Plain, plain}
 use Rattle.kernel_terms.specs.declared.term.Term.{Term}
 use Rattle.kernel_terms.specs.declared.term.Form.TheViews as Form
-use Rattle.kernel_terms.proofs.Layers.{statement-Loop}
+use Rattle.sj_main.proofs.PlainLayers.{plain-Loop}
 use Rattle.std.specs.Prelude.{Result, Ok, Err, IfOk, OnOk}
-use Rattle.kernel_terms.specs.declared.no_memory.NoMemory.{NoMemory}
+use Rattle.java_values.specs.declared.no_memory.NoMemory.{NoMemory}
 use Rattle.sj_main.specs.declared.builder.Parts.{Parts}
 use Rattle.sj_main.specs.Residual.{registers}
-use Rattle.kernel_terms.specs.MayEnd.{ends0, ends1}
+use Rattle.sj_main.specs.definitions.Plain.{ends0, ends1}
 use Rattle.sj_main.specs.Circuit.{Part, joined_if, again_if, start, resume}
 use Rattle.sj_main.specs.Build.{Adds, start_list}
 
@@ -23,7 +23,7 @@ pub record ComesTo (old now : Parts) (all left : Part) : Type 0 where
 pub comes_first : (old : Parts) (all : Part) → ComesTo old old all all
 comes_first old all = record { equations = refl; sets = refl; emits = refl; done = refl }
 
-pub comes_on : (old now new : Parts) (all : Part) (p : Stmt) (ps : List Stmt) (go r end : ℕ) → ends0 p ≡ true → ComesTo old now all (start_list (p ∷ ps) (length now.equations.items) go r) → Adds now new (start p (length now.equations.items) go r) end → ComesTo old new all (start_list ps (length new.equations.items) end (r + registers p))
+pub comes_on : (old now new : Parts) (all : Part) (p : Plain) (ps : List Plain) (go r end : ℕ) → ends0 p ≡ true → ComesTo old now all (start_list (p ∷ ps) (length now.equations.items) go r) → Adds now new (start p (length now.equations.items) go r) end → ComesTo old new all (start_list ps (length new.equations.items) end (r + registers p))
 comes_on old now new all p ps go r end open_ c0 a =
     let part = start p (length now.equations.items) go r in
     let len : length now.equations.items + length part.equations ≡ length new.equations.items = sym (ap length a.equations ∙ length-append now.equations.items part.equations) in
@@ -39,7 +39,7 @@ comes_on old now new all p ps go r end open_ c0 a =
     })
 
 -- a part that can't end at once is the last that is started
-pub comes_to_stop : (old now new : Parts) (all : Part) (p : Stmt) (ps : List Stmt) (go r end : ℕ) → ends0 p ≡ false → ComesTo old now all (start_list (p ∷ ps) (length now.equations.items) go r) → Adds now new (start p (length now.equations.items) go r) end → Adds old new all end
+pub comes_to_stop : (old now new : Parts) (all : Part) (p : Plain) (ps : List Plain) (go r end : ℕ) → ends0 p ≡ false → ComesTo old now all (start_list (p ∷ ps) (length now.equations.items) go r) → Adds now new (start p (length now.equations.items) go r) end → Adds old new all end
 comes_to_stop old now new all p ps go r end shut c0 a =
     let part = start p (length now.equations.items) go r in
     let left = start_list ps (length now.equations.items + length part.equations) part.done (r + registers p) in
@@ -55,7 +55,7 @@ comes_last old new all base go r c =
       done = c.done;
     }
 
-adds_again : (e : Bool) (old mid new : Parts) (p : Stmt) (r d k : ℕ) → e ≡ true → Adds old mid (resume p (length old.equations.items) r) d → Adds mid new (start p (length mid.equations.items) d r) k → Adds old new (again_if e (resume p (length old.equations.items) r) (start p (length old.equations.items + length (resume p (length old.equations.items) r).equations) (resume p (length old.equations.items) r).done r)) 0
+adds_again : (e : Bool) (old mid new : Parts) (p : Plain) (r d k : ℕ) → e ≡ true → Adds old mid (resume p (length old.equations.items) r) d → Adds mid new (start p (length mid.equations.items) d r) k → Adds old new (again_if e (resume p (length old.equations.items) r) (start p (length old.equations.items + length (resume p (length old.equations.items) r).equations) (resume p (length old.equations.items) r).done r)) 0
 adds_again false old mid new p r d k e x y = cc
 adds_again true old mid new p r d k e x y =
     let a = resume p (length old.equations.items) r in
@@ -75,8 +75,8 @@ pub adds_wires_at_most : (r : Result ℕ NoMemory) (old new : Parts) (part : Par
 adds_wires_at_most (Ok d) old new part n e h = let s : length new.equations.items ≡ length old.equations.items + length part.equations = ap length h.equations ∙ length-append old.equations.items part.equations in omega arith
 adds_wires_at_most (Err x) old new part n e h = tt
 
-pub resume_loop_again : (old mid new : Parts) (t body : Term) (r d k : ℕ) → t.form ≡ Form.Loop body → ends1 (statement body) ≡ true → Adds old mid (resume (statement body) (length old.equations.items) r) d → Adds mid new (start (statement body) (length mid.equations.items) d r) k → Adds old new (resume (statement t) (length old.equations.items) r) 0
-resume_loop_again old mid new t body r d k is e x y = subst (λ p. Adds old new (resume p (length old.equations.items) r) 0) (sym (statement-Loop t body is)) (adds_again (ends1 (statement body)) old mid new (statement body) r d k e x y)
+pub resume_loop_again : (old mid new : Parts) (t body : Term) (r d k : ℕ) → t.form ≡ Form.Loop body → ends1 (plain body) ≡ true → Adds old mid (resume (plain body) (length old.equations.items) r) d → Adds mid new (start (plain body) (length mid.equations.items) d r) k → Adds old new (resume (plain t) (length old.equations.items) r) 0
+resume_loop_again old mid new t body r d k is e x y = subst (λ p. Adds old new (resume p (length old.equations.items) r) 0) (sym (plain-Loop t body is)) (adds_again (ends1 (plain body)) old mid new (plain body) r d k e x y)
 
 pub any_on : (all x e1 m e0 a : Bool) → all ≡ (x || (e1 && a)) || (m && (e0 && a)) → all ≡ x || ((e1 || (m && e0)) && a)
 any_on all true e1 m e0 a h = h

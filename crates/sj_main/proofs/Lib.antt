@@ -1,3 +1,4 @@
+pub mod PlainLayers
 pub mod Pairs
 pub mod Residuals
 pub mod Wires
@@ -10,6 +11,7 @@ pub mod Starts
 pub mod Stepping
 pub mod Running
 pub mod Turns
+pub mod Scheduling
 pub mod Readings
 pub mod WordLemmas
 pub mod ServeLemmas
@@ -18,6 +20,7 @@ mod ReadTokens
 mod ReadBlocks
 mod ReadNames
 mod ReadTerms
+mod ReadTables
 mod ReadPrograms
 mod ReadSources
 pub mod RowLemmas

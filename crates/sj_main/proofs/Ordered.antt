@@ -1,7 +1,7 @@
 -- The equations of a copy stand in order, and its pairs name wires and numbers that there are.
 use Rattle.std.proofs.Common.{◌≡◌, ℕ, ◌+◌, ◌<◌, ◌≤◌, Bool, true, false, List, [], ◌∷◌, ◌++◌, length, arith, refl, subst, length-append}
-use Rattle.kernel_terms.specs.Statements.{Stmt, Nothing, Pause, Emit, Seq, Loop}
-use Rattle.kernel_terms.specs.MayEnd.{ends0, ends1}
+use Rattle.sj_main.specs.definitions.Plain.{Plain, Nothing, Pause, Emit, Seq, Loop}
+use Rattle.sj_main.specs.definitions.Plain.{ends0, ends1}
 use Rattle.tick_code.specs.declared.equation.Equation.{Equation}
 use Rattle.tick_code.specs.declared.formula.Formula.TheVariants.{Or}
 use Rattle.tick_code.specs.Formulas.{IsOrdered, FitsFrame}
@@ -52,7 +52,7 @@ stands_joined_if false base size signals a b x y = x
 quiet : (base size signals : ℕ) (part : Part) → 0 < base → Stands base size signals part → Stands base size signals (record part { done = 0 })
 quiet base size signals part z x = record { ordered = x.ordered; done = omega arith; sets = x.sets; emits = x.emits; fits = x.fits }
 
-pub start_stands : (p : Stmt) (base go r size signals : ℕ) → 0 < base → go < base → r + registers p ≤ size → EmitsBelow signals p → Stands base size signals (start p base go r)
+pub start_stands : (p : Plain) (base go r size signals : ℕ) → 0 < base → go < base → r + registers p ≤ size → EmitsBelow signals p → Stands base size signals (start p base go r)
 start_stands Nothing base go r size signals z g k e = record { ordered = tt; done = omega arith; sets = tt; emits = tt; fits = tt }
 start_stands Pause base go r size signals z g k e = record { ordered = tt; done = omega arith; sets = (omega arith, omega arith, tt); emits = tt; fits = tt }
 start_stands (Emit s) base go r size signals z g k e = record { ordered = tt; done = omega arith; sets = tt; emits = (e, omega arith, tt); fits = tt }
@@ -86,7 +86,7 @@ stands_again : (e : Bool) (base size signals : ℕ) (a b : Part) → 0 < base �
 stands_again true base size signals a b z x y = quiet base size signals _ z (stands_joined base size signals a b x y)
 stands_again false base size signals a b z x y = quiet base size signals _ z x
 
-pub resume_stands : (p : Stmt) (base r size signals : ℕ) → 0 < base → r + registers p ≤ size → EmitsBelow signals p → Stands base size signals (resume p base r)
+pub resume_stands : (p : Plain) (base r size signals : ℕ) → 0 < base → r + registers p ≤ size → EmitsBelow signals p → Stands base size signals (resume p base r)
 resume_stands Nothing base r size signals z g e = record { ordered = tt; done = omega arith; sets = tt; emits = tt; fits = tt }
 resume_stands (Emit s) base r size signals z g e = record { ordered = tt; done = omega arith; sets = tt; emits = tt; fits = tt }
 resume_stands Pause base r size signals z g e = record { ordered = (refl, tt, tt); done = omega arith; sets = tt; emits = tt; fits = (omega arith, tt) }

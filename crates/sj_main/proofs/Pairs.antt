@@ -4,7 +4,7 @@ use Rattle.std.proofs.Math.Bool.{or_assoc}
 use mathlib.Core.Path.{fun_ext}
 use Rattle.tick_code.specs.Formulas.{is_on}
 use Rattle.sj_main.specs.Circuit.{is_set, emitted}
-use Rattle.sj_main.specs.definitions.Signals.{Emission}
+use Rattle.kernel_rules.specs.Signals.{Emission}
 
 pub bool_cases : (b : Bool) → (b ≡ true) ⊎ (b ≡ false)
 bool_cases true = inl refl

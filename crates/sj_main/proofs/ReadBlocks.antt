@@ -6,8 +6,8 @@ use Rattle.std.proofs.lemmas.List.{map-append}
 use Rattle.std.proofs.lemmas.List.Folds.{list_all-append}
 use Rattle.std.specs.Str.{bytes_eq}
 use Rattle.kernel_terms.specs.declared.term.Term.{Term}
-use Rattle.kernel_terms.specs.WellFormed.{fits_tables}
-use Rattle.kernel_terms.specs.Statements.{Nothing, Pause, Emit, Loop, sequence, statement}
+use Rattle.sj_main.specs.BuiltTerms.{fits_tables}
+use Rattle.sj_main.specs.definitions.Plain.{Nothing, Pause, Emit, Loop, sequence, plain}
 use Rattle.sj_main.specs.declared.token.Token.{Token}
 use Rattle.sj_main.specs.declared.token.Token.TheVariants.{Reserved, Sign, Name}
 use Rattle.sj_main.specs.declared.token.Word.TheVariants as word
@@ -40,7 +40,7 @@ reads_both names level start middle rest xs ys r s = record {
   before = λ b. r.before (s.before b);
   there = λ b after h. r.there (s.before b) after (s.there b after h);
   keeps = λ b h. r.keeps (s.before b) (s.keeps b h);
-  parts = λ b. r.parts (s.before b) ∙ ap (λ l. map statement xs ++ l) (s.parts b) ∙ sym (append_assoc (map statement xs) (map statement ys) (parts_of names b)) ∙ ap (λ l. l ++ parts_of names b) (sym (map-append statement xs ys));
+  parts = λ b. r.parts (s.before b) ∙ ap (λ l. map plain xs ++ l) (s.parts b) ∙ sym (append_assoc (map plain xs) (map plain ys) (parts_of names b)) ∙ ap (λ l. l ++ parts_of names b) (sym (map-append plain xs ys));
   back = λ b after h k. let m = r.back b after h k in s.back m.block after m.closed m.keeps;
   fits = list_all-append (fits_tables (length names)) xs ys ∙ both_true _ _ r.fits s.fits;
   shorter = let a = r.shorter in let b = s.shorter in omega (arith, length-append xs ys);
@@ -51,7 +51,7 @@ one_fits true h = refl
 one_fits false h = h
 
 -- the block after `;`
-pub reads_empty : (names : List (List ℕ)) (level : ℕ) (start rest : List Token) (t : Term) → start ≡ Sign mark.Semicolon ∷ rest → statement t ≡ Nothing → fits_tables (length names) t ≡ true
+pub reads_empty : (names : List (List ℕ)) (level : ℕ) (start rest : List Token) (t : Term) → start ≡ Sign mark.Semicolon ∷ rest → plain t ≡ Nothing → fits_tables (length names) t ≡ true
     → Reads names level start (t ∷ []) rest
 reads_empty names level start rest t e s f = record {
   before = EmptyThen;
@@ -70,7 +70,7 @@ reads_empty names level start rest t e s f = record {
     back (EmitThen n b) after h k = let i = h.is in absurd (cc)
     back (WhileThen a b) after h k = let i = h.is in absurd (cc)
 
-pub reads_pause : (names : List (List ℕ)) (level : ℕ) (start rest : List Token) (t : Term) → start ≡ Reserved word.Pause ∷ Sign mark.Semicolon ∷ rest → statement t ≡ Pause → fits_tables (length names) t ≡ true
+pub reads_pause : (names : List (List ℕ)) (level : ℕ) (start rest : List Token) (t : Term) → start ≡ Reserved word.Pause ∷ Sign mark.Semicolon ∷ rest → plain t ≡ Pause → fits_tables (length names) t ≡ true
     → Reads names level start (t ∷ []) rest
 reads_pause names level start rest t e s f = record {
   before = PauseThen;
@@ -90,7 +90,7 @@ reads_pause names level start rest t e s f = record {
     back (WhileThen a b) after h k = let i = h.is in absurd (cc)
 
 pub reads_emit : (names : List (List ℕ)) (level : ℕ) (start rest : List Token) (name : List ℕ) (t : Term) → start ≡ Reserved word.Emit ∷ Name name ∷ Sign mark.Semicolon ∷ rest
-    → list_any (bytes_eq name) names ≡ true → statement t ≡ Emit (signal_of names name) → fits_tables (length names) t ≡ true
+    → list_any (bytes_eq name) names ≡ true → plain t ≡ Emit (signal_of names name) → fits_tables (length names) t ≡ true
     → Reads names level start (t ∷ []) rest
 reads_emit names level start rest name t e d s f = record {
   before = EmitThen name;
@@ -119,7 +119,7 @@ depth_of_body : (level body rest : ℕ) → level + max (1 + body) rest ≤ most
 depth_of_body level body rest a = omega arith
 
 pub reads_loop : (names : List (List ℕ)) (level : ℕ) (start inner rest : List Token) (terms : List Term) (t : Term) → StartsLoop start inner
-    → IsRead names (level + 1) inner terms rest → statement t ≡ Loop (sequence (map statement terms)) → fits_tables (length names) t ≡ true
+    → IsRead names (level + 1) inner terms rest → plain t ≡ Loop (sequence (map plain terms)) → fits_tables (length names) t ≡ true
     → Reads names level start (t ∷ []) rest
 reads_loop names level start inner rest terms t e r s f = record {
   before = WhileThen r.block;
@@ -160,17 +160,17 @@ no_statement names level start a p e l = record { none = none }
         absurd (n.none c (block_tokens b ++ Sign mark.CloseBrace ∷ after) (record { is = append_assoc (block_tokens c) (Sign mark.CloseBrace ∷ block_tokens b) (Sign mark.CloseBrace ∷ after) })
         (record { declared = k.declared.0; depth = depth_of_body level (opens c) (opens b) k.depth }))
 
-pub always_empty : (start rest : List Token) (t : Term) → start ≡ Sign mark.Semicolon ∷ rest → statement t ≡ Nothing → ((n : ℕ) → fits_tables n t ≡ true) → ReadsAlways start t rest
+pub always_empty : (start rest : List Token) (t : Term) → start ≡ Sign mark.Semicolon ∷ rest → plain t ≡ Nothing → ((n : ℕ) → fits_tables n t ≡ true) → ReadsAlways start t rest
 always_empty start rest t e s f = record { reads = λ names level. reads_empty names level start rest t e s (f (length names)) }
 
-pub always_pause : (start middle rest : List Token) (t : Term) → start ≡ Reserved word.Pause ∷ middle → middle ≡ Sign mark.Semicolon ∷ rest → statement t ≡ Pause → ((n : ℕ) → fits_tables n t ≡ true) → ReadsAlways start t rest
+pub always_pause : (start middle rest : List Token) (t : Term) → start ≡ Reserved word.Pause ∷ middle → middle ≡ Sign mark.Semicolon ∷ rest → plain t ≡ Pause → ((n : ℕ) → fits_tables n t ≡ true) → ReadsAlways start t rest
 always_pause start middle rest t e g s f = record { reads = λ names level. reads_pause names level start rest t (e ∙ ap (λ l. Reserved word.Pause ∷ l) g) s (f (length names)) }
 
 lt_true : (a b : ℕ) → a < b → nat_lt a b ≡ true
 lt_true a b h = grind (arith, nat_tests)
 
 pub always_emit : (names : List (List ℕ)) (start named middle rest : List Token) (name : List ℕ) (place : ℕ) (t : Term) → start ≡ Reserved word.Emit ∷ named → named ≡ Name name ∷ middle → middle ≡ Sign mark.Semicolon ∷ rest
-    → IsPlace names name place → statement t ≡ Emit place → ((n : ℕ) → fits_tables n t ≡ nat_lt place n) → ReadsAtAnyLevel names start t rest
+    → IsPlace names name place → plain t ≡ Emit place → ((n : ℕ) → fits_tables n t ≡ nat_lt place n) → ReadsAtAnyLevel names start t rest
 always_emit names start named middle rest name place t e g h p s f = record {
   reads = λ level.
       reads_emit names level start rest name t (e ∙ ap (λ l. Reserved word.Emit ∷ l) (g ∙ ap (λ l. Name name ∷ l) h)) p.declared (s ∙ ap Emit p.number) (f (length names) ∙ lt_true place (length names) p.within);
@@ -184,7 +184,7 @@ pub reads_push : (names : List (List ℕ)) (level : ℕ) (start middle rest : Li
 reads_push names level start middle rest xs new t r s h = rw h (reads_both names level start middle rest xs (t ∷ []) r s)
 
 pub reads_loop_of : (names : List (List ℕ)) (level : ℕ) (start inner rest : List Token) (terms : List Term) (t body : Term) → StartsLoop start inner → IsRead names (level + 1) inner terms rest
-    → IsSequence body terms → statement t ≡ Loop (statement body) → ((n : ℕ) → fits_tables n t ≡ fits_tables n body) → Reads names level start (t ∷ []) rest
+    → IsSequence body terms → plain t ≡ Loop (plain body) → ((n : ℕ) → fits_tables n t ≡ fits_tables n body) → Reads names level start (t ∷ []) rest
 reads_loop_of names level start inner rest terms t body e r q s f =
     reads_loop names level start inner rest terms t e r (s ∙ ap Loop q.meaning) (f (length names) ∙ q.fits (length names) r.fits)
 

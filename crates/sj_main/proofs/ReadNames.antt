@@ -7,8 +7,8 @@ use Rattle.std.proofs.lemmas.List.Folds.{list_any-append}
 use Rattle.std.proofs.lemmas.List.{map-append}
 use Rattle.std.proofs.lemmas.Bool.Decides.{nat_tests}
 use Rattle.std.proofs.lemmas.Slice.Eq.{bytes_eq-Decides}
-use Rattle.kernel_terms.specs.Names.{are_distinct}
-use Rattle.kernel_terms.specs.WellFormed.{most_signals}
+use Rattle.java_values.specs.Names.{are_distinct}
+use Rattle.kernel_terms.specs.Limits.{most_signals}
 use Rattle.sj_main.specs.ReadingNames.{AreNames, IsPlace, Declared, IsRefused}
 
 suc_lt : (a b : ℕ) → nat_lt (1 + a) (suc b) ≡ nat_lt a b

@@ -1,18 +1,15 @@
 -- The ports of a program, and the whole.
-use Rattle.std.proofs.Common.{◌≡◌, ℕ, ◌≤◌, Bool, true, false, ◌&&◌, nat_le, ◌==◌, List, [], ◌∷◌, ◌++◌, length, ap, refl, sym, ◌∙◌, append_assoc, append-nil, arith, subst}
+use Rattle.std.proofs.Common.{◌≡◌, ℕ, true, List, [], ◌∷◌, ◌++◌, ap, sym, ◌∙◌, append_assoc, append-nil, subst}
 use Rattle.std.specs.List.{list_all}
-use Rattle.std.proofs.lemmas.Bool.Decides.{nat_tests}
-use Rattle.kernel_terms.specs.Names.{is_name, are_distinct}
+use Rattle.java_values.specs.Names.{is_name}
 use Rattle.kernel_terms.specs.declared.term.Term.{Term}
-use Rattle.kernel_terms.specs.declared.tables.Tables.{Tables}
-use Rattle.kernel_terms.specs.WellFormed.{signal_names, is_well_formed, fits_tables, most_signals}
 use Rattle.sj_main.specs.declared.token.Token.{Token}
 use Rattle.sj_main.specs.declared.token.Token.TheVariants.{Reserved, Sign, Name}
 use Rattle.sj_main.specs.declared.token.Word.TheVariants as word
 use Rattle.sj_main.specs.declared.token.Mark.TheVariants as mark
 use Rattle.sj_main.specs.definitions.Grammar.{Block, Program, block_tokens, port_tokens, program_tokens}
 use Rattle.kernel_terms.specs.declared.system.System.{System}
-use Rattle.kernel_terms.specs.Statements.{sequence}
+use Rattle.sj_main.specs.definitions.Plain.{sequence}
 use Rattle.sj_main.proofs.ReadGrammar.{block_once, ports_once}
 use Rattle.sj_main.specs.ReadingNames.{AreNames, Declared, IsRefused}
 use Rattle.sj_main.specs.ReadingBlocks.{BeginsNot, IsRead, NoBlock, IsClosed, IsBlock}
@@ -60,31 +57,6 @@ ports_none start front names r c n = record { none = λ all after q a. let b = r
     stop : (after : List Token) (more : List (List ℕ)) → ArePorts front more after → ⊥
     stop after [] q = c.none after q.is
     stop after (m ∷ ms) q = n.none m (port_tokens ms ++ Sign mark.CloseBrace ∷ after) (record { is = q.is })
-
-all_true : (a b c d e : Bool) → a ≡ true → b ≡ true → c ≡ true → d ≡ true → e ≡ true → (a && (b && (c && (d && e)))) ≡ true
-all_true true true true true true p q r s t = refl
-all_true false b c d e p q r s t = p
-all_true true false c d e p q r s t = q
-all_true true true false d e p q r s t = r
-all_true true true true false e p q r s t = s
-all_true true true true true false p q r s t = t
-
-le_true : (a b : ℕ) → a ≤ b → nat_le a b ≡ true
-le_true a b h = grind (arith, nat_tests)
-
-with_true : (b : Bool) → b ≡ true → (b && true) ≡ true
-with_true true h = refl
-with_true false h = h
-
-pub well_formed : (tables : Tables) (domains : List Term) (names : List (List ℕ)) (t : Term) → signal_names tables ≡ names → domains ≡ t ∷ [] → list_all is_name names ≡ true → AreNames names
-    → fits_tables (length names) t ≡ true → is_well_formed tables domains ≡ true
-well_formed tables domains names t h g n a f =
-    all_true (length domains == 1) (list_all is_name (signal_names tables)) (are_distinct (signal_names tables)) (nat_le (length (signal_names tables)) most_signals) (list_all (fits_tables (length (signal_names tables))) domains)
-    (ap (λ d. length d == 1) g)
-    (ap (list_all is_name) h ∙ n)
-    (ap are_distinct h ∙ a.distinct)
-    (ap (λ x. nat_le (length x) most_signals) h ∙ le_true (length names) most_signals a.few)
-    (ap (λ x. list_all (fits_tables (length x)) domains) h ∙ ap (list_all (fits_tables (length names))) g ∙ with_true (fits_tables (length names) t) f)
 
 abbrev after_ports : Program → List Token
 after_ports p = Sign mark.OpenBrace ∷ (block_tokens p.body ++ Sign mark.CloseBrace ∷ Sign mark.CloseBrace ∷ [])
@@ -151,6 +123,6 @@ program_read tokens inner body opened end names terms system s r o b e y = recor
   program = program_of names b.block;
   is = tokens_is tokens inner body opened end names b.block s r.ports o b.closed e;
   names = record { distinct = r.good.distinct; signals = r.good.few; declared = b.keeps.declared; depth = b.keeps.depth };
-  signals = y.signals;
+  tables = y.tables;
   domain = y.domain ∙ ap (λ l. sequence l ∷ []) b.parts;
 }

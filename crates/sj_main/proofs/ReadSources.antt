@@ -1,9 +1,9 @@
 -- What a source's bytes say of its program.
 use Rattle.std.proofs.Common.{◌≡◌, ℕ, ◌+◌, ◌≤◌, Bool, true, false, ◌&&◌, cond, ◌==◌, List, [], ◌∷◌, ◌++◌, length, drop, Option, Some, None, ap, refl, arith, subst, length-append}
 use Rattle.std.specs.List.{list_all, prefix_len, take_while}
-use Rattle.kernel_terms.specs.Names.{is_letter, is_word_byte, is_name}
+use Rattle.java_values.specs.Names.{is_letter, is_word_byte, is_name}
 use Rattle.kernel_terms.specs.declared.system.System.{System}
-use Rattle.kernel_terms.specs.Statements.{Stmt, sequence, sequence_from}
+use Rattle.sj_main.specs.definitions.Plain.{Plain, sequence, sequence_from}
 use Rattle.sj_main.specs.declared.token.Token.{Token}
 use Rattle.sj_main.specs.declared.token.Token.TheVariants.{Sign, Name}
 use Rattle.sj_main.specs.declared.token.Mark.TheVariants as mark
@@ -62,16 +62,16 @@ pub spelled_names : (bytes : List ℕ) (tokens : List Token) → Spells bytes to
 spelled_names bytes tokens s = record { named = λ p h. let P : List Token → Type 0 = λ t. Spells bytes t in program_named bytes p (subst P h s) }
 
 -- how large the statements are
-total : List Stmt → ℕ
+total : List Plain → ℕ
 total [] = 0
 total (p ∷ ps) = size_of p + total ps
 
-size_from : (p : Stmt) (ps : List Stmt) → size_of (sequence_from p ps) ≡ size_of p + total ps
+size_from : (p : Plain) (ps : List Plain) → size_of (sequence_from p ps) ≡ size_of p + total ps
 unfolding total
 size_from p [] = omega arith
 size_from p (q ∷ qs) = ap (λ n. size_of p + n) (size_from q qs)
 
-size_sequence : (ps : List Stmt) → size_of (sequence ps) ≤ total ps + 1
+size_sequence : (ps : List Plain) → size_of (sequence ps) ≤ total ps + 1
 unfolding total
 size_sequence [] = omega arith
 size_sequence (p ∷ ps) = let e = size_from p ps in omega arith
@@ -112,7 +112,7 @@ read_as bytes tokens system s r =
       spells = h;
       names = r.names;
       only = λ p q. program_once p r.program (spells_once bytes (program_tokens p) (program_tokens r.program) q h);
-      signals = r.signals;
+      tables = r.tables;
       domain = r.domain;
       size = source_size bytes r.program h;
     }

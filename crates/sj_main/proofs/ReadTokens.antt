@@ -1,7 +1,7 @@
 -- Facts on the tokens that bytes spell.
 use Rattle.std.proofs.Common.{◌≡◌, ℕ, ◌+◌, ◌≤◌, ◌<◌, Bool, true, false, cond, List, [], ◌∷◌, ◌++◌, length, drop, Option, Some, None, ap, refl, sym, ◌∙◌, append_assoc, append-nil, arith, ◌||◌, length-drop, subst}
 use Rattle.std.specs.List.{prefix_len, take_while}
-use Rattle.kernel_terms.specs.Names.{is_letter, is_between, is_word_byte, is_name}
+use Rattle.java_values.specs.Names.{is_letter, is_between, is_word_byte, is_name}
 use Rattle.sj_main.specs.declared.token.Token.{Token}
 use Rattle.sj_main.specs.declared.token.Token.TheVariants.{Reserved, Name}
 use Rattle.std.specs.Prelude.{codes}

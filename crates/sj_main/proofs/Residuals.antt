@@ -1,14 +1,14 @@
 -- Registers of a sequence are those of one part where the other's are off.
 use Rattle.std.proofs.Common.{◌≡◌, ℕ, ◌+◌, ◌<◌, ◌≤◌, Bool, false, ◌&&◌, ◌||◌, cond, refl, ap, ◌∙◌, arith}
-use Rattle.kernel_terms.specs.Statements.{Stmt, Nothing, Pause, Emit, Seq, Loop}
+use Rattle.sj_main.specs.definitions.Plain.{Plain, Nothing, Pause, Emit, Seq, Loop}
 use Rattle.sj_main.specs.Residual.{registers, live, rest, LivesOnce, StandFor}
 use Rattle.sj_main.proofs.Pairs.{and_off}
 
-pub record AllOff (p : Stmt) (r : ℕ) (on : ℕ → Bool) : Type 0 where
+pub record AllOff (p : Plain) (r : ℕ) (on : ℕ → Bool) : Type 0 where
   pub dead : live p r on ≡ false
   pub once : LivesOnce p r on
 
-pub all_off : (p : Stmt) (r : ℕ) (on : ℕ → Bool) → ((n : ℕ) → r ≤ n → n < r + registers p → on n ≡ false) → AllOff p r on
+pub all_off : (p : Plain) (r : ℕ) (on : ℕ → Bool) → ((n : ℕ) → r ≤ n → n < r + registers p → on n ≡ false) → AllOff p r on
 all_off Nothing r on h = record { dead = refl; once = tt }
 all_off (Emit s) r on h = record { dead = refl; once = tt }
 all_off Pause r on h = record { dead = h r (omega arith) (omega arith); once = tt }
@@ -21,7 +21,7 @@ all_off (Seq p q) r on h =
     }
 all_off (Loop p) r on h = let a = all_off p r on h in record { dead = a.dead; once = a.once }
 
-pub first_stands : (p q t : Stmt) (r : ℕ) (on : ℕ → Bool) → StandFor p r on t → AllOff q (r + registers p) on → StandFor (Seq p q) r on (Seq t q)
+pub first_stands : (p q t : Plain) (r : ℕ) (on : ℕ → Bool) → StandFor p r on t → AllOff q (r + registers p) on → StandFor (Seq p q) r on (Seq t q)
 first_stands p q t r on s b =
     record {
       is_live = ap (λ x. x || live q (r + registers p) on) s.is_live;
@@ -29,7 +29,7 @@ first_stands p q t r on s b =
       once = (ap (λ x. live p r on && x) b.dead ∙ and_off (live p r on), s.once, b.once);
     }
 
-pub second_stands : (p q t : Stmt) (r : ℕ) (on : ℕ → Bool) → AllOff p r on → StandFor q (r + registers p) on t → StandFor (Seq p q) r on t
+pub second_stands : (p q t : Plain) (r : ℕ) (on : ℕ → Bool) → AllOff p r on → StandFor q (r + registers p) on t → StandFor (Seq p q) r on t
 second_stands p q t r on a s =
     record {
       is_live = ap (λ x. x || live q (r + registers p) on) a.dead ∙ s.is_live;
@@ -37,5 +37,5 @@ second_stands p q t r on a s =
       once = (ap (λ x. x && live q (r + registers p) on) a.dead, a.once, s.once);
     }
 
-pub loop_stands : (p t : Stmt) (r : ℕ) (on : ℕ → Bool) → StandFor p r on t → StandFor (Loop p) r on (Seq t (Loop p))
+pub loop_stands : (p t : Plain) (r : ℕ) (on : ℕ → Bool) → StandFor p r on t → StandFor (Loop p) r on (Seq t (Loop p))
 loop_stands p t r on s = record { is_live = s.is_live; residual = ap (λ x. Seq x (Loop p)) s.residual; once = s.once }

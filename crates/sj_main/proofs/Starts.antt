@@ -1,8 +1,8 @@
 -- What a built part needs to be finished.
 use Rattle.std.proofs.Common.{◌≡◌, ℕ, ◌+◌, ◌^◌, ◌<◌, ◌≤◌, [], ◌++◌, length, arith, refl, sym, ap, ◌∙◌, subst, length-append}
 use Rattle.std.specs.Prelude.{Result, Ok, Err, IfOk}
-use Rattle.kernel_terms.specs.declared.no_memory.NoMemory.{NoMemory}
-use Rattle.kernel_terms.specs.Statements.{Stmt}
+use Rattle.java_values.specs.declared.no_memory.NoMemory.{NoMemory}
+use Rattle.sj_main.specs.definitions.Plain.{Plain}
 use Rattle.tick_code.specs.Formulas.{IsOrdered, FitsFrame}
 use Rattle.sj_main.specs.declared.builder.Parts.{Parts}
 use Rattle.sj_main.specs.declared.built.Built.{Built}
@@ -50,13 +50,13 @@ made old new part end size signals most pairs he hs hm a s few light fits =
       room = omega (arith, light.pairs, ap length sets, ap length emits);
     }
 
-pub made_start : (old new : Parts) (p : Stmt) (end signals : ℕ) → CanBuild signals p → old.equations.items ≡ head → old.sets.items ≡ [] → old.emits.items ≡ [] → Adds old new (start p (length old.equations.items) 1 0) end → IsMade new (start p 2 1 0) end (registers p) signals
+pub made_start : (old new : Parts) (p : Plain) (end signals : ℕ) → CanBuild signals p → old.equations.items ≡ head → old.sets.items ≡ [] → old.emits.items ≡ [] → Adds old new (start p (length old.equations.items) 1 0) end → IsMade new (start p 2 1 0) end (registers p) signals
 made_start old new p end signals can he hs hm a =
     let len : length old.equations.items ≡ 2 = ap length he in
     let none : length (start p 2 1 0).equations ≤ 0 = omega (arith, start_has_none p 2 1 0) in
     made old new (start p 2 1 0) end (registers p) signals 0 (starting_weight p) he hs hm (subst (λ n. Adds old new (start p n 1 0) end) len a) (start_stands p 2 1 0 (registers p) signals (omega arith) (omega arith) (omega arith) can.emits) none (start_weighed p 2 1 0) (omega (arith, can.weight))
 
-pub made_resume : (old new : Parts) (p : Stmt) (end signals : ℕ) → CanBuild signals p → old.equations.items ≡ head → old.sets.items ≡ [] → old.emits.items ≡ [] → Adds old new (resume p (length old.equations.items) 0) end → IsMade new (resume p 2 0) end (registers p) signals
+pub made_resume : (old new : Parts) (p : Plain) (end signals : ℕ) → CanBuild signals p → old.equations.items ≡ head → old.sets.items ≡ [] → old.emits.items ≡ [] → Adds old new (resume p (length old.equations.items) 0) end → IsMade new (resume p 2 0) end (registers p) signals
 made_resume old new p end signals can he hs hm a =
     let len : length old.equations.items ≡ 2 = ap length he in
     made old new (resume p 2 0) end (registers p) signals (gates p) (resuming_weight p) he hs hm (subst (λ n. Adds old new (resume p n 0) end) len a) (resume_stands p 2 0 (registers p) signals (omega arith) (omega arith) can.emits) (resume_has p 2 0) (resume_weighed p 2 0) (omega (arith, can.weight, can.size, gates-le p))
@@ -67,10 +67,10 @@ pub shown : (new : Parts) (part : Part) (end size signals : ℕ) (r : Result Bui
 shown new part end size signals (Ok built) b h = h part b.equations b.done b.sets b.emits
 shown new part end size signals (Err e) b h = tt
 
-pub few_registers : (p : Stmt) (signals : ℕ) → CanBuild signals p → registers p < 2 ^ 31
+pub few_registers : (p : Plain) (signals : ℕ) → CanBuild signals p → registers p < 2 ^ 31
 few_registers p signals can = omega (arith, can.weight, registers-le p)
 
-pub few_gates : (p : Stmt) (signals : ℕ) → CanBuild signals p → gates p < 2 ^ 31
+pub few_gates : (p : Plain) (signals : ℕ) → CanBuild signals p → gates p < 2 ^ 31
 few_gates p signals can = omega (arith, can.size, gates-le p)
 
 pub ruleset few = (few_registers, few_gates)

@@ -3,15 +3,15 @@ use Rattle.std.proofs.Common.{◌≡◌, inl, inr, ℕ, zero, suc, ◌+◌, ◌�
 use Rattle.std.specs.Prelude.{Some, None, replicate}
 use Rattle.std.proofs.lemmas.Bool.{cases_lt}
 use mathlib.Core.Path.{fun_ext}
-use Rattle.kernel_terms.specs.Statements.{Stmt}
-use Rattle.kernel_terms.specs.MayEnd.{LoopsWait}
+use Rattle.sj_main.specs.definitions.Plain.{Plain}
+use Rattle.sj_main.specs.definitions.Plain.{LoopsWait}
 use Rattle.tick_code.specs.declared.equation.Equation.{Equation}
 use Rattle.tick_code.specs.Formulas.{Satisfies, is_on, is_true}
 use Rattle.tick_code.proofs.Solving.{satisfies_back}
 use Rattle.tick_log.specs.Runs.{statuses_of}
-use Rattle.sj_main.specs.definitions.Signals.{Emission, Env, is_emitted}
-use Rattle.sj_main.specs.definitions.TickRule.{Tick}
-use Rattle.sj_main.specs.definitions.LegalTick.{IsLegalTick}
+use Rattle.kernel_rules.specs.Signals.{Emission, Env, is_emitted}
+use Rattle.sj_main.specs.PlainTicks.{Tick}
+use Rattle.sj_main.specs.PlainLegal.{IsLegalTick}
 use Rattle.sj_main.specs.Residual.{registers, StandFor}
 use Rattle.sj_main.specs.Circuit.{Part, start, resume, is_set, emitted}
 use Rattle.sj_main.specs.Builts.{Shows, Steps, head}
@@ -42,17 +42,17 @@ status_at (b ∷ bs) zero h = refl
 status_at (b ∷ bs) (suc n) h = status_at bs n (omega arith)
 
 -- how a step ends
-pub data Leaves (p : Stmt) (new : List ℤ) (o : Tick) (ended : Bool) : Type 0 where
+pub data Leaves (p : Plain) (new : List ℤ) (o : Tick) (ended : Bool) : Type 0 where
   Ends : o.code ≡ 0 → ended ≡ true → Leaves p new o ended
   GoesOn : o.code ≡ 1 → ended ≡ false → StandFor p 0 (is_on new) o.rest → Leaves p new o ended
 
 -- a legal tick of the statement t, and what it leaves
-pub record TicksFrom (p t : Stmt) (signals : ℕ) (present : List Bool) (new : List ℤ) (ended : Bool) : Type 0 where
+pub record TicksFrom (p t : Plain) (signals : ℕ) (present : List Bool) (new : List ℤ) (ended : Bool) : Type 0 where
   pub tick : Tick
   pub legal : IsLegalTick t signals (statuses_of present (replicate signals (pos 0))) tick
   pub leaves : Leaves p new tick ended
 
-from_active : (p t : Stmt) (part : Part) (code : List Equation) (present next : List ℕ) (end signals : ℕ) (old values new : List ℤ) (shown : List Bool) (ended : Bool)
+from_active : (p t : Plain) (part : Part) (code : List Equation) (present next : List ℕ) (end signals : ℕ) (old values new : List ℤ) (shown : List Bool) (ended : Bool)
     → Shows code present next end head part signals (registers p) → Steps code present next end old values shown new ended → length old ≡ registers p → is_on values 0 ≡ false
     → Within values part.sets 0 (0 + registers p) → Active values (λ n. record { present = is_set values part.emits n; value = pos 0 }) p t 0 part → TicksFrom p t signals shown new ended
 from_active p t part code present next end signals old values new shown ended s k len off within x =
@@ -89,7 +89,7 @@ wire_off old values es h = ap is_true h.0
 wire_on : (old values : List ℤ) (es : List Equation) → Satisfies (head ++ es) old values → is_on values 1 ≡ true
 wire_on old values es h = ap is_true h.1.0
 
-pub first_tick : (p : Stmt) (code : List Equation) (present next : List ℕ) (end signals : ℕ) (old values new : List ℤ) (shown : List Bool) (ended : Bool) → LoopsWait p
+pub first_tick : (p : Plain) (code : List Equation) (present next : List ℕ) (end signals : ℕ) (old values new : List ℤ) (shown : List Bool) (ended : Bool) → LoopsWait p
     → Shows code present next end head (start p 2 1 0) signals (registers p) → Steps code present next end old values shown new ended → length old ≡ registers p → TicksFrom p p signals shown new ended
 first_tick p code present next end signals old values new shown ended l s k len =
     let part = start p 2 1 0 in
@@ -97,7 +97,7 @@ first_tick p code present next end signals old values new shown ended l s k len 
     let off = wire_off old values part.equations h in
     from_active p p part code present next end signals old values new shown ended s k len off (start_within values p 2 1 0) (start_active values (λ n. record { present = is_set values part.emits n; value = pos 0 }) p 2 1 0 l off (wire_on old values part.equations h))
 
-pub later_tick : (p t : Stmt) (code : List Equation) (present next : List ℕ) (end signals : ℕ) (old values new : List ℤ) (shown : List Bool) (ended : Bool) → LoopsWait p
+pub later_tick : (p t : Plain) (code : List Equation) (present next : List ℕ) (end signals : ℕ) (old values new : List ℤ) (shown : List Bool) (ended : Bool) → LoopsWait p
     → Shows code present next end head (resume p 2 0) signals (registers p) → Steps code present next end old values shown new ended → length old ≡ registers p → StandFor p 0 (is_on old) t → TicksFrom p t signals shown new ended
 later_tick p t code present next end signals old values new shown ended l s k len st =
     let part = resume p 2 0 in

@@ -1,11 +1,11 @@
 -- Weights of sequences and loops.
 use Rattle.std.proofs.Common.{◌≡◌, ℕ, ◌+◌, ◌*◌, ◌≤◌, ◌<◌, Bool, true, false, ◌&&◌, ◌||◌, cond, List, [], ◌∷◌, ◌++◌, length, map, arith, refl, sym, ap, ◌∙◌, subst, length-append}
 use Rattle.std.specs.Prelude.{Option, Some, None}
-use Rattle.kernel_terms.specs.Statements.{Stmt, Nothing, Pause, Emit, Seq, Loop, sequence, sequence_from, statement}
-use Rattle.kernel_terms.specs.MayEnd.{ends0, ends1}
+use Rattle.sj_main.specs.definitions.Plain.{Plain, Nothing, Pause, Emit, Seq, Loop, sequence, sequence_from, plain}
+use Rattle.sj_main.specs.definitions.Plain.{ends0, ends1}
 use Rattle.kernel_terms.specs.declared.term.Term.{Term}
 use Rattle.kernel_terms.specs.declared.term.Form.TheViews as Form
-use Rattle.kernel_terms.proofs.Layers.{statement-Seq, statement-Loop}
+use Rattle.sj_main.proofs.PlainLayers.{plain-Seq, plain-Loop}
 use Rattle.sj_main.specs.declared.weight.Copies.{Copies}
 use Rattle.sj_main.specs.definitions.Trees.{TickTree, Leaf, InTurn, OneOf, starting_tree, resuming_tree, in_turn, one_of}
 use Rattle.sj_main.specs.definitions.Weight.{leaves, leaves_of}
@@ -19,7 +19,7 @@ starting_if : (e : Bool) (s t : TickTree) → leaves (cond e (InTurn s t) s) ≡
 starting_if true s t = refl
 starting_if false s t = omega arith
 
-pub starting-Seq : (p q : Stmt) → starting_weight (Seq p q) ≡ starting_weight p + cond (ends0 p) (starting_weight q) 0
+pub starting-Seq : (p q : Plain) → starting_weight (Seq p q) ≡ starting_weight p + cond (ends0 p) (starting_weight q) 0
 starting-Seq p q = starting_if (ends0 p) (starting_tree p) (starting_tree q)
 
 leaves-one_of : (s t : Option TickTree) → leaves_of (one_of s t) ≡ leaves_of s + leaves_of t
@@ -53,7 +53,7 @@ and_left : (a b : Bool) → a && b ≡ true → a ≡ true
 and_left true b h = refl
 and_left false b h = cc
 
-resumes_to_end : (p : Stmt) → ends1 p ≡ true → IsThere (resuming_tree p)
+resumes_to_end : (p : Plain) → ends1 p ≡ true → IsThere (resuming_tree p)
 resumes_to_end Nothing h = cc
 resumes_to_end Pause h = There Leaf
 resumes_to_end (Emit s) h = cc
@@ -68,64 +68,64 @@ resuming_if true None t h = elim (h refl) [ ]
 resuming_if true (Some s) t h = refl
 resuming_if false s t h = omega arith
 
-pub resuming-Seq : (p q : Stmt) → resuming_weight (Seq p q) ≡ resuming_weight p + cond (ends1 p) (starting_weight q) 0 + resuming_weight q
+pub resuming-Seq : (p q : Plain) → resuming_weight (Seq p q) ≡ resuming_weight p + cond (ends1 p) (starting_weight q) 0 + resuming_weight q
 resuming-Seq p q =
     leaves-one_of (cond (ends1 p) (in_turn (resuming_tree p) (starting_tree q)) (resuming_tree p)) (resuming_tree q)
     ∙ ap (λ n. n + resuming_weight q) (resuming_if (ends1 p) (resuming_tree p) (starting_tree q) (resumes_to_end p))
 
-pub resuming-Loop : (p : Stmt) → resuming_weight (Loop p) ≡ resuming_weight p + cond (ends1 p) (starting_weight p) 0
+pub resuming-Loop : (p : Plain) → resuming_weight (Loop p) ≡ resuming_weight p + cond (ends1 p) (starting_weight p) 0
 resuming-Loop p = resuming_if (ends1 p) (resuming_tree p) (starting_tree p) (resumes_to_end p)
 
 cond_none : (e : Bool) → ◌≡◌ {A = ℕ} (cond e 0 0) 0
 cond_none true = refl
 cond_none false = refl
 
-starting-sequence_from : (p : Stmt) (ps : List Stmt) → starting_weight (sequence_from p ps) ≡ starting_rest (p ∷ ps)
+starting-sequence_from : (p : Plain) (ps : List Plain) → starting_weight (sequence_from p ps) ≡ starting_rest (p ∷ ps)
 starting-sequence_from p [] = omega (arith, cond_none (ends0 p))
 starting-sequence_from p (q ∷ ps) = starting-Seq p (sequence_from q ps) ∙ ap (λ n. starting_weight p + cond (ends0 p) n 0) (starting-sequence_from q ps)
 
-resuming-sequence_from : (p : Stmt) (ps : List Stmt) → resuming_weight (sequence_from p ps) ≡ resuming_rest (p ∷ ps)
+resuming-sequence_from : (p : Plain) (ps : List Plain) → resuming_weight (sequence_from p ps) ≡ resuming_rest (p ∷ ps)
 resuming-sequence_from p [] = omega (arith, cond_none (ends1 p))
 resuming-sequence_from p (q ∷ ps) =
     resuming-Seq p (sequence_from q ps)
     ∙ ap (λ n. resuming_weight p + cond (ends1 p) n 0 + resuming_weight (sequence_from q ps)) (starting-sequence_from q ps)
     ∙ ap (λ n. resuming_weight p + cond (ends1 p) (starting_rest (q ∷ ps)) 0 + n) (resuming-sequence_from q ps)
 
-weighs_list : (ps : List Stmt) (copies : Copies) → 0 < length ps → Weighs (starting_rest ps) (resuming_rest ps) copies → Weighs (starting_weight (sequence ps)) (resuming_weight (sequence ps)) copies
+weighs_list : (ps : List Plain) (copies : Copies) → 0 < length ps → Weighs (starting_rest ps) (resuming_rest ps) copies → Weighs (starting_weight (sequence ps)) (resuming_weight (sequence ps)) copies
 weighs_list [] copies h w = absurd (omega arith)
 weighs_list (p ∷ ps) copies h w = record { starts = w.starts ∙ ap capped (sym (starting-sequence_from p ps)); resumes = w.resumes ∙ ap capped (sym (resuming-sequence_from p ps)) }
 
-length-parts : (v : List Term) → length (map statement v) ≡ length v
+length-parts : (v : List Term) → length (map plain v) ≡ length v
 length-parts [] = refl
 length-parts (t ∷ v) = omega (arith, length-parts v)
 
-pub weighs-Seq : (t : Term) (v : List Term) (copies : Copies) → t.form ≡ Form.Seq v → 0 < length v → Weighs (starting_rest (map statement v)) (resuming_rest (map statement v)) copies → Weighs (starting_weight (statement t)) (resuming_weight (statement t)) copies
-weighs-Seq t v copies is some w = subst (λ p. Weighs (starting_weight p) (resuming_weight p) copies) (sym (statement-Seq t v is)) (weighs_list (map statement v) copies (omega (arith, length-parts v)) w)
+pub weighs-Seq : (t : Term) (v : List Term) (copies : Copies) → t.form ≡ Form.Seq v → 0 < length v → Weighs (starting_rest (map plain v)) (resuming_rest (map plain v)) copies → Weighs (starting_weight (plain t)) (resuming_weight (plain t)) copies
+weighs-Seq t v copies is some w = subst (λ p. Weighs (starting_weight p) (resuming_weight p) copies) (sym (plain-Seq t v is)) (weighs_list (map plain v) copies (omega (arith, length-parts v)) w)
 
-pub weighs-empty : (t : Term) (v : List Term) (copies : Copies) → t.form ≡ Form.Seq v → length v ≡ 0 → copies.starting ≡ 1 → copies.resuming ≡ 0 → Weighs (starting_weight (statement t)) (resuming_weight (statement t)) copies
-weighs-empty t [] copies is none s r = subst (λ p. Weighs (starting_weight p) (resuming_weight p) copies) (sym (statement-Seq t [] is)) (record { starts = s; resumes = r })
+pub weighs-empty : (t : Term) (v : List Term) (copies : Copies) → t.form ≡ Form.Seq v → length v ≡ 0 → copies.starting ≡ 1 → copies.resuming ≡ 0 → Weighs (starting_weight (plain t)) (resuming_weight (plain t)) copies
+weighs-empty t [] copies is none s r = subst (λ p. Weighs (starting_weight p) (resuming_weight p) copies) (sym (plain-Seq t [] is)) (record { starts = s; resumes = r })
 weighs-empty t (x ∷ v) copies is none s r = absurd (omega arith)
 
 capped_cond : (e : Bool) (n : ℕ) → cond e (capped n) 0 ≡ capped (cond e n 0)
 capped_cond true n = refl
 capped_cond false n = refl
 
-pub weighs-Loop : (t body : Term) (own copies : Copies) (e : Bool) → t.form ≡ Form.Loop body → e ≡ ends1 (statement body) → Weighs (starting_weight (statement body)) (resuming_weight (statement body)) own → copies.starting ≡ own.starting → copies.resuming ≡ capped (own.resuming + cond e own.starting 0)
-    → Weighs (starting_weight (statement t)) (resuming_weight (statement t)) copies
+pub weighs-Loop : (t body : Term) (own copies : Copies) (e : Bool) → t.form ≡ Form.Loop body → e ≡ ends1 (plain body) → Weighs (starting_weight (plain body)) (resuming_weight (plain body)) own → copies.starting ≡ own.starting → copies.resuming ≡ capped (own.resuming + cond e own.starting 0)
+    → Weighs (starting_weight (plain t)) (resuming_weight (plain t)) copies
 weighs-Loop t body own copies e is same w s r =
-    let p = statement body in
+    let p = plain body in
     let go : Weighs (starting_weight (Loop p)) (resuming_weight (Loop p)) copies = record {
       starts = s ∙ w.starts;
       resumes = (let c : cond e own.starting 0 ≡ capped (cond (ends1 p) (starting_weight p) 0) = ap (λ n. cond e n 0) w.starts ∙ ap (λ b. cond b (capped (starting_weight p)) 0) same ∙ capped_cond (ends1 p) (starting_weight p) in omega (arith, r, w.resumes, resuming-Loop p));
     } in
-    subst (λ q. Weighs (starting_weight q) (resuming_weight q) copies) (sym (statement-Loop t body is)) go
+    subst (λ q. Weighs (starting_weight q) (resuming_weight q) copies) (sym (plain-Loop t body is)) go
 
 pub ruleset weights_of_sequences = (weighs-Seq, weighs-empty, weighs-Loop)
 
 pub weighs_none : (copies : Copies) → copies.starting ≡ 0 → copies.resuming ≡ 0 → Weighs (starting_rest []) (resuming_rest []) copies
 weighs_none copies s r = record { starts = s; resumes = r }
 
-pub weighs_before : (ps qs : List Stmt) (p : Stmt) (own after all : Copies) (e0 e1 : Bool) → qs ≡ p ∷ ps → e0 ≡ ends0 p → e1 ≡ ends1 p → Weighs (starting_weight p) (resuming_weight p) own → Weighs (starting_rest ps) (resuming_rest ps) after
+pub weighs_before : (ps qs : List Plain) (p : Plain) (own after all : Copies) (e0 e1 : Bool) → qs ≡ p ∷ ps → e0 ≡ ends0 p → e1 ≡ ends1 p → Weighs (starting_weight p) (resuming_weight p) own → Weighs (starting_rest ps) (resuming_rest ps) after
     → all.starting ≡ capped (own.starting + cond e0 after.starting 0) → all.resuming ≡ capped (capped (own.resuming + cond e1 after.starting 0) + after.resuming) → Weighs (starting_rest qs) (resuming_rest qs) all
 weighs_before ps qs p own after all e0 e1 is s0 s1 x y s r =
     let c0 : cond e0 after.starting 0 ≡ capped (cond (ends0 p) (starting_rest ps) 0) = ap (λ n. cond e0 n 0) y.starts ∙ ap (λ b. cond b (capped (starting_rest ps)) 0) s0 ∙ capped_cond (ends0 p) (starting_rest ps) in
@@ -146,7 +146,7 @@ weighed_joined false a b n m x y = record { pairs = omega (arith, x.pairs) }
 fewer : (a : Part) (n m : ℕ) → n ≡ m → Weighed a n → Weighed a m
 fewer a n m e x = record { pairs = omega (arith, x.pairs) }
 
-pub start_weighed : (p : Stmt) (base go r : ℕ) → Weighed (start p base go r) (starting_weight p)
+pub start_weighed : (p : Plain) (base go r : ℕ) → Weighed (start p base go r) (starting_weight p)
 start_weighed Nothing base go r = record { pairs = omega arith }
 start_weighed Pause base go r = record { pairs = omega arith }
 start_weighed (Emit s) base go r = record { pairs = omega arith }
@@ -161,7 +161,7 @@ weighed_again : (e : Bool) (a b : Part) (n m : ℕ) → Weighed a n → Weighed 
 weighed_again true a b n m x y = record { pairs = omega (arith, x.pairs, y.pairs, length-append a.sets b.sets, length-append a.emits b.emits) }
 weighed_again false a b n m x y = record { pairs = omega (arith, x.pairs) }
 
-pub resume_weighed : (p : Stmt) (base r : ℕ) → Weighed (resume p base r) (resuming_weight p)
+pub resume_weighed : (p : Plain) (base r : ℕ) → Weighed (resume p base r) (resuming_weight p)
 resume_weighed Nothing base r = record { pairs = omega arith }
 resume_weighed Pause base r = record { pairs = omega arith }
 resume_weighed (Emit s) base r = record { pairs = omega arith }
@@ -172,14 +172,14 @@ resume_weighed (Seq p q) base r =
 resume_weighed (Loop p) base r =
     fewer _ _ _ (sym (resuming-Loop p)) (weighed_again (ends1 p) (resume p base r) _ (resuming_weight p) (starting_weight p) (resume_weighed p base r) (start_weighed p _ (resume p base r).done r))
 
-pub registers-le : (p : Stmt) → registers p ≤ resuming_weight p
+pub registers-le : (p : Plain) → registers p ≤ resuming_weight p
 registers-le Nothing = omega arith
 registers-le Pause = omega arith
 registers-le (Emit s) = omega arith
 registers-le (Seq p q) = omega (arith, registers-le p, registers-le q, resuming-Seq p q)
 registers-le (Loop p) = omega (arith, registers-le p, resuming-Loop p)
 
-pub gates-le : (p : Stmt) → gates p + 1 ≤ 2 * size_of p
+pub gates-le : (p : Plain) → gates p + 1 ≤ 2 * size_of p
 gates-le Nothing = omega arith
 gates-le Pause = omega arith
 gates-le (Emit s) = omega arith

@@ -3,14 +3,14 @@ use Rattle.std.proofs.Common.{◌≡◌, ◌≢◌, ℕ, ◌+◌, ℤ, pos, Bool
 use Rattle.std.proofs.lemmas.List.{append-nil}
 use Rattle.std.proofs.lemmas.Bool.Decides.{nat_tests}
 use Rattle.std.proofs.lemmas.Bool.{true≢false}
-use Rattle.kernel_terms.specs.Statements.{Stmt, Nothing, Pause, Emit, Seq, Loop}
-use Rattle.kernel_terms.specs.MayEnd.{ends0, ends1, LoopsWait}
+use Rattle.sj_main.specs.definitions.Plain.{Plain, Nothing, Pause, Emit, Seq, Loop}
+use Rattle.sj_main.specs.definitions.Plain.{ends0, ends1, LoopsWait}
 use Rattle.tick_code.specs.declared.equation.Equation.{Equation}
 use Rattle.tick_code.specs.declared.formula.Formula.TheVariants.{Or}
 use Rattle.tick_code.specs.Formulas.{Satisfies, is_on, is_true, of_bool}
 use Rattle.tick_code.proofs.Solving.{satisfies_front, satisfies_back}
-use Rattle.sj_main.specs.definitions.Signals.{Env}
-use Rattle.sj_main.specs.definitions.TickRule.{Tick, left_at, Continues, Ticks}
+use Rattle.kernel_rules.specs.Signals.{Env}
+use Rattle.sj_main.specs.PlainTicks.{Tick, left_at, Continues, Ticks}
 use Rattle.sj_main.specs.Residual.{registers, live, rest, LivesOnce, StandFor}
 use Rattle.sj_main.specs.Circuit.{Part, joined, joined_if, either, beside, either_if, again_if, start, resume, is_set, emitted}
 use Rattle.sj_main.proofs.Pairs.{bool_cases, or_off, and_off, emitted-append, Off, off_append, only_first, only_second, Within, within_append}
@@ -23,12 +23,12 @@ pub record Silent (w : List ℤ) (part : Part) : Type 0 where
   pub emits : emitted w part.emits ≡ []
 
 -- how a copy of p ends its tick
-pub data Outcome (w : List ℤ) (p : Stmt) (r : ℕ) (part : Part) (o : Tick) : Type 0 where
+pub data Outcome (w : List ℤ) (p : Plain) (r : ℕ) (part : Part) (o : Tick) : Type 0 where
   Ended : o.code ≡ 0 → is_on w part.done ≡ true → Off w part.sets → Outcome w p r part o
   Waits : o.code ≡ 1 → is_on w part.done ≡ false → StandFor p r (is_set w part.sets) o.rest → Outcome w p r part o
 
 -- a copy of p in which the statement t ticks
-pub record Active (w : List ℤ) (env : Env) (p t : Stmt) (r : ℕ) (part : Part) : Type 0 where
+pub record Active (w : List ℤ) (env : Env) (p t : Plain) (r : ℕ) (part : Part) : Type 0 where
   pub tick : Tick
   pub ticks : Ticks t env tick
   pub emits : emitted w part.emits ≡ tick.emits
@@ -64,7 +64,7 @@ done_if : (w : List ℤ) (e : Bool) (a b : Part) → (e ≡ true → is_on w b.d
 done_if w true a b h k = h refl
 done_if w false a b h k = k refl
 
-pub start_never : (w : List ℤ) (p : Stmt) (base go r : ℕ) → is_on w 0 ≡ false → ends0 p ≡ false → is_on w (start p base go r).done ≡ false
+pub start_never : (w : List ℤ) (p : Plain) (base go r : ℕ) → is_on w 0 ≡ false → ends0 p ≡ false → is_on w (start p base go r).done ≡ false
 start_never w Nothing base go r z e = cc
 start_never w (Emit s) base go r z e = cc
 start_never w Pause base go r z e = z
@@ -105,7 +105,7 @@ again_done : (w : List ℤ) (e : Bool) (a b : Part) → is_on w 0 ≡ false → 
 again_done w true a b z = z
 again_done w false a b z = z
 
-pub resume_never : (w f : List ℤ) (p : Stmt) (base r : ℕ) → is_on w 0 ≡ false → Satisfies (resume p base r).equations f w → ends1 p ≡ false → is_on w (resume p base r).done ≡ false
+pub resume_never : (w f : List ℤ) (p : Plain) (base r : ℕ) → is_on w 0 ≡ false → Satisfies (resume p base r).equations f w → ends1 p ≡ false → is_on w (resume p base r).done ≡ false
 resume_never w f Nothing base r z h e = z
 resume_never w f (Emit s) base r z h e = z
 resume_never w f Pause base r z h e = cc
@@ -129,7 +129,7 @@ silent_joined_if : (w : List ℤ) (e : Bool) (a b : Part) → Silent w a → Sil
 silent_joined_if w true a b x y = silent_joined w a b x y
 silent_joined_if w false a b x y = x
 
-pub start_silent : (w : List ℤ) (p : Stmt) (base go r : ℕ) → is_on w 0 ≡ false → is_on w go ≡ false → Silent w (start p base go r)
+pub start_silent : (w : List ℤ) (p : Plain) (base go r : ℕ) → is_on w 0 ≡ false → is_on w go ≡ false → Silent w (start p base go r)
 start_silent w Nothing base go r z h = record { done = h; sets = record { each = λ n. refl }; emits = refl }
 start_silent w Pause base go r z h = record { done = z; sets = record { each = λ n. pause_off n }; emits = refl } where
   pause_off : (n : ℕ) → (nat_eq r n && is_on w go) || false ≡ false
@@ -155,7 +155,7 @@ again_first : (w f : List ℤ) (e : Bool) (a b : Part) → Satisfies (again_if e
 again_first w f true a b h = satisfies_front a.equations b.equations f w h
 again_first w f false a b h = h
 
-pub resume_silent : (w f : List ℤ) (p : Stmt) (base r : ℕ) → is_on w 0 ≡ false → Satisfies (resume p base r).equations f w → live p r (is_on f) ≡ false → Silent w (resume p base r)
+pub resume_silent : (w f : List ℤ) (p : Plain) (base r : ℕ) → is_on w 0 ≡ false → Satisfies (resume p base r).equations f w → live p r (is_on f) ≡ false → Silent w (resume p base r)
 resume_silent w f Nothing base r z h d = record { done = z; sets = record { each = λ n. refl }; emits = refl }
 resume_silent w f (Emit s) base r z h d = record { done = z; sets = record { each = λ n. refl }; emits = refl }
 resume_silent w f Pause base r z h d = record { done = ap is_true h.0 ∙ d; sets = record { each = λ n. refl }; emits = refl }
@@ -175,7 +175,7 @@ resume_silent w f (Loop p) base r z h d =
 
 -- A copy sets no register outside its own.
 
-pub start_within : (w : List ℤ) (p : Stmt) (base go r : ℕ) → Within w (start p base go r).sets r (r + registers p)
+pub start_within : (w : List ℤ) (p : Plain) (base go r : ℕ) → Within w (start p base go r).sets r (r + registers p)
 start_within w Nothing base go r = record { below = λ n h. refl; above = λ n h. refl }
 start_within w (Emit s) base go r = record { below = λ n h. refl; above = λ n h. refl }
 start_within w Pause base go r = record { below = λ n h. other n (omega arith); above = λ n h. other n (omega arith) } where
@@ -188,7 +188,7 @@ start_within w (Seq p q) base go r =
       within_if false a b x y = record { below = x.below; above = λ n h. x.above n (omega arith) }
 start_within w (Loop p) base go r = start_within w p base go r
 
-pub resume_within : (w : List ℤ) (p : Stmt) (base r : ℕ) → Within w (resume p base r).sets r (r + registers p)
+pub resume_within : (w : List ℤ) (p : Plain) (base r : ℕ) → Within w (resume p base r).sets r (r + registers p)
 resume_within w Nothing base r = record { below = λ n h. refl; above = λ n h. refl }
 resume_within w (Emit s) base r = record { below = λ n h. refl; above = λ n h. refl }
 resume_within w Pause base r = record { below = λ n h. refl; above = λ n h. refl }
@@ -208,7 +208,7 @@ resume_within w (Loop p) base r = within_if (ends1 p) (resume p base r) _ (resum
 -- Copies that tick.
 
 -- A first part that goes on waiting, and a second one whose registers stay off.
-seq_waits : (w : List ℤ) (env : Env) (p q t : Stmt) (r : ℕ) (a part : Part) → Within w a.sets r (r + registers p) → (x : Active w env p t r a) → x.tick.code ≡ 1 → StandFor p r (is_set w a.sets) x.tick.rest
+seq_waits : (w : List ℤ) (env : Env) (p q t : Plain) (r : ℕ) (a part : Part) → Within w a.sets r (r + registers p) → (x : Active w env p t r a) → x.tick.code ≡ 1 → StandFor p r (is_set w a.sets) x.tick.rest
     → is_on w part.done ≡ false → is_set w part.sets ≡ is_set w a.sets → emitted w part.emits ≡ emitted w a.emits → Active w env (Seq p q) (Seq t q) r part
 seq_waits w env p q t r a part wa x c s d sets emits =
     let o : Tick = record { code = 1; rest = Seq x.tick.rest q; emits = x.tick.emits } in
@@ -221,7 +221,7 @@ seq_waits w env p q t r a part wa x c s d sets emits =
     }
 
 -- A first part that ticks, and a second one that starts where the first has ended.
-seq_active : (w : List ℤ) (env : Env) (p q t : Stmt) (r : ℕ) (a b : Part) → Within w a.sets r (r + registers p) → Within w b.sets (r + registers p) (r + registers p + registers q)
+seq_active : (w : List ℤ) (env : Env) (p q t : Plain) (r : ℕ) (a b : Part) → Within w a.sets r (r + registers p) → Within w b.sets (r + registers p) (r + registers p + registers q)
     → Active w env p t r a → (is_on w a.done ≡ false → Silent w b) → (is_on w a.done ≡ true → Active w env q q (r + registers p) b) → Active w env (Seq p q) (Seq t q) r (joined a b)
 seq_active w env p q t r a b wa wb x silent active = from_first x.outcome where
   from_second : x.tick.code ≡ 0 → Off w a.sets → Active w env q q (r + registers p) b → Active w env (Seq p q) (Seq t q) r (joined a b)
@@ -247,7 +247,7 @@ seq_active w env p q t r a b wa wb x silent active = from_first x.outcome where
       (emitted-append w a.emits b.emits ∙ ap (λ l. emitted w a.emits ++ l) y.emits ∙ append-nil (emitted w a.emits))
 
 -- the same where the second part's copy is left out, since the first can't end
-seq_active_if : (w : List ℤ) (env : Env) (p q : Stmt) (r : ℕ) (e : Bool) (a b : Part) → (e ≡ false → is_on w a.done ≡ false) → Within w a.sets r (r + registers p) → Within w b.sets (r + registers p) (r + registers p + registers q)
+seq_active_if : (w : List ℤ) (env : Env) (p q : Plain) (r : ℕ) (e : Bool) (a b : Part) → (e ≡ false → is_on w a.done ≡ false) → Within w a.sets r (r + registers p) → Within w b.sets (r + registers p) (r + registers p + registers q)
     → Active w env p p r a → (is_on w a.done ≡ false → Silent w b) → (is_on w a.done ≡ true → Active w env q q (r + registers p) b) → Active w env (Seq p q) (Seq p q) r (joined_if e a b)
 seq_active_if w env p q r true a b never wa wb x silent active = seq_active w env p q p r a b wa wb x silent active
 seq_active_if w env p q r false a b never wa wb x silent active = from x.outcome where
@@ -256,7 +256,7 @@ seq_active_if w env p q r false a b never wa wb x silent active = from x.outcome
   from (Waits c d s) = seq_waits w env p q p r a a wa x c s d refl refl
 
 -- a loop whose body waits
-loop_waits : (w : List ℤ) (env : Env) (p t : Stmt) (r : ℕ) (a part : Part) → (x : Active w env p t r a) → x.tick.code ≡ 1 → StandFor p r (is_set w a.sets) x.tick.rest
+loop_waits : (w : List ℤ) (env : Env) (p t : Plain) (r : ℕ) (a part : Part) → (x : Active w env p t r a) → x.tick.code ≡ 1 → StandFor p r (is_set w a.sets) x.tick.rest
     → is_on w part.done ≡ false → is_set w part.sets ≡ is_set w a.sets → emitted w part.emits ≡ emitted w a.emits → Active w env (Loop p) (Seq t (Loop p)) r part
 loop_waits w env p t r a part x c s d sets emits =
     let o : Tick = record { code = 1; rest = Seq x.tick.rest (Loop p); emits = x.tick.emits } in
@@ -269,7 +269,7 @@ loop_waits w env p t r a part x c s d sets emits =
     }
 
 -- a loop that starts
-loop_active : (w : List ℤ) (env : Env) (p : Stmt) (r : ℕ) (a : Part) → is_on w 0 ≡ false → is_on w a.done ≡ false → Active w env p p r a → Active w env (Loop p) (Loop p) r (record a { done = 0 })
+loop_active : (w : List ℤ) (env : Env) (p : Plain) (r : ℕ) (a : Part) → is_on w 0 ≡ false → is_on w a.done ≡ false → Active w env p p r a → Active w env (Loop p) (Loop p) r (record a { done = 0 })
 loop_active w env p r a z never x = from x.outcome where
   from : Outcome w p r a x.tick → Active w env (Loop p) (Loop p) r (record a { done = 0 })
   from (Ended c d off) = absurd (true≢false (sym d ∙ never))
@@ -284,7 +284,7 @@ loop_active w env p r a z never x = from x.outcome where
         outcome = Waits c z (subst (λ t. StandFor (Loop p) r (is_set w a.sets) t) (sym left) (loop_stands p x.tick.rest r (is_set w a.sets) s));
       }
 
-pub start_active : (w : List ℤ) (env : Env) (p : Stmt) (base go r : ℕ) → LoopsWait p → is_on w 0 ≡ false → is_on w go ≡ true → Active w env p p r (start p base go r)
+pub start_active : (w : List ℤ) (env : Env) (p : Plain) (base go r : ℕ) → LoopsWait p → is_on w 0 ≡ false → is_on w go ≡ true → Active w env p p r (start p base go r)
 start_active w env Nothing base go r l z h = record { tick = record { code = 0; rest = Nothing; emits = [] }; ticks = refl; emits = refl; outcome = Ended refl h (record { each = λ n. refl }) }
 start_active w env (Emit s) base go r l z h = record { tick = record { code = 0; rest = Nothing; emits = record { signal = s; value = pos 0 } ∷ [] }; ticks = refl; emits = ap (λ x. cond x (record { signal = s; value = pos 0 } ∷ []) []) h; outcome = Ended refl h (record { each = λ n. refl }) }
 start_active w env Pause base go r l z h =
@@ -295,7 +295,7 @@ start_active w env (Seq p q) base go r l z h =
 start_active w env (Loop p) base go r l z h = loop_active w env p r (start p base go r) z (start_never w p base go r z l.0) (start_active w env p base go r l.1 z h)
 
 -- the first part's copy ticks, and the second's doesn't
-first_resumes : (w : List ℤ) (env : Env) (p q t : Stmt) (r base : ℕ) (e : Bool) (c a b : Part) → (e ≡ true → is_on w (either base c (joined a b)).done ≡ is_on w c.done || is_on w b.done) → (e ≡ false → is_on w a.done ≡ false) → Within w a.sets r (r + registers p) → Within w b.sets (r + registers p) (r + registers p + registers q)
+first_resumes : (w : List ℤ) (env : Env) (p q t : Plain) (r base : ℕ) (e : Bool) (c a b : Part) → (e ≡ true → is_on w (either base c (joined a b)).done ≡ is_on w c.done || is_on w b.done) → (e ≡ false → is_on w a.done ≡ false) → Within w a.sets r (r + registers p) → Within w b.sets (r + registers p) (r + registers p + registers q)
     → Silent w c → Active w env p t r a → (is_on w a.done ≡ false → Silent w b) → (is_on w a.done ≡ true → Active w env q q (r + registers p) b) → Active w env (Seq p q) (Seq t q) r (either_if e base c a b)
 first_resumes w env p q t r base true c a b d never wa wb u x silent active = lifted (seq_active w env p q t r a b wa wb x silent active) where
   done : is_on w (either base c (joined a b)).done ≡ is_on w b.done
@@ -320,7 +320,7 @@ first_resumes w env p q t r base false c a b d never wa wb u x silent active = f
   from (Waits k e s) = seq_waits w env p q t r a (beside c a) wa x k s u.done (only_second w c.sets a.sets u.sets) (emitted-append w c.emits a.emits ∙ ap (λ l. l ++ emitted w a.emits) u.emits)
 
 -- the second part's copy ticks, and the first's doesn't
-second_resumes : (w : List ℤ) (env : Env) (p q t : Stmt) (r base : ℕ) (e : Bool) (c a b : Part) → (e ≡ true → is_on w (either base c (joined a b)).done ≡ is_on w c.done || is_on w b.done) → Within w c.sets (r + registers p) (r + registers p + registers q)
+second_resumes : (w : List ℤ) (env : Env) (p q t : Plain) (r base : ℕ) (e : Bool) (c a b : Part) → (e ≡ true → is_on w (either base c (joined a b)).done ≡ is_on w c.done || is_on w b.done) → Within w c.sets (r + registers p) (r + registers p + registers q)
     → Active w env q t (r + registers p) c → Silent w a → Silent w b → Active w env (Seq p q) t r (either_if e base c a b)
 second_resumes w env p q t r base e c a b d wc x ya yb = pick e d where
   lifted : (part : Part) → is_on w part.done ≡ is_on w c.done → is_set w part.sets ≡ is_set w c.sets → emitted w part.emits ≡ emitted w c.emits → (Off w c.sets → Off w part.sets) → Active w env (Seq p q) t r part
@@ -343,7 +343,7 @@ second_resumes w env p q t r base e c a b d wc x ya yb = pick e d where
       lifted (beside c a) refl (only_first w c.sets a.sets ya.sets) (emitted-append w c.emits a.emits ∙ ap (λ l. emitted w c.emits ++ l) ya.emits ∙ append-nil (emitted w c.emits)) (λ o. off_append w c.sets a.sets o ya.sets)
 
 -- a loop that goes on, and starts its body again where it ends
-loop_resumes : (w : List ℤ) (env : Env) (p t : Stmt) (r : ℕ) (e : Bool) (a b : Part) → is_on w 0 ≡ false → (e ≡ false → is_on w a.done ≡ false) → is_on w b.done ≡ false → Active w env p t r a → (is_on w a.done ≡ false → Silent w b) → (is_on w a.done ≡ true → Active w env p p r b)
+loop_resumes : (w : List ℤ) (env : Env) (p t : Plain) (r : ℕ) (e : Bool) (a b : Part) → is_on w 0 ≡ false → (e ≡ false → is_on w a.done ≡ false) → is_on w b.done ≡ false → Active w env p t r a → (is_on w a.done ≡ false → Silent w b) → (is_on w a.done ≡ true → Active w env p p r b)
     → Active w env (Loop p) (Seq t (Loop p)) r (again_if e a b)
 loop_resumes w env p t r true a b z never rest_never x silent active = from x.outcome where
   again : x.tick.code ≡ 0 → Off w a.sets → Active w env p p r b → Active w env (Loop p) (Seq t (Loop p)) r (record (joined a b) { done = 0 })
@@ -371,7 +371,7 @@ loop_resumes w env p t r false a b z never rest_never x silent active = from x.o
   from (Ended c d off) = absurd (true≢false (sym d ∙ never refl))
   from (Waits c d s) = loop_waits w env p t r a (record a { done = 0 }) x c s z refl refl
 
-pub resume_active : (w f : List ℤ) (env : Env) (p : Stmt) (base r : ℕ) → LoopsWait p → is_on w 0 ≡ false → Satisfies (resume p base r).equations f w → live p r (is_on f) ≡ true → LivesOnce p r (is_on f) → Active w env p (rest p r (is_on f)) r (resume p base r)
+pub resume_active : (w f : List ℤ) (env : Env) (p : Plain) (base r : ℕ) → LoopsWait p → is_on w 0 ≡ false → Satisfies (resume p base r).equations f w → live p r (is_on f) ≡ true → LivesOnce p r (is_on f) → Active w env p (rest p r (is_on f)) r (resume p base r)
 resume_active w f env Nothing base r l z h v once = cc
 resume_active w f env (Emit s) base r l z h v once = cc
 resume_active w f env Pause base r l z h v once = record { tick = record { code = 0; rest = Nothing; emits = [] }; ticks = refl; emits = refl; outcome = Ended refl (ap is_true h.0 ∙ v) (record { each = λ n. refl }) }

@@ -4,7 +4,7 @@ use Rattle.tick_code.specs.Formulas.{IsOrdered, FitsFrame, Satisfies, is_on}
 use Rattle.tick_code.specs.declared.formula.Formula.TheVariants.{Const}
 use Rattle.sj_main.specs.Circuit.{Part, is_set, start, resume}
 use Rattle.sj_main.specs.declared.built.Built.{Built}
-use Rattle.kernel_terms.specs.Statements.{Stmt}
+use Rattle.sj_main.specs.definitions.Plain.{Plain}
 use Rattle.sj_main.specs.Residual.{registers}
 use Rattle.std.specs.Prelude.{◌≡◌, ℕ, ◌+◌, ◌<◌, ◌≤◌, slice_index, slice_index_or, ◌++◌, ℤ, pos, Bool, false, List, [], ◌∷◌, length}
 
@@ -52,11 +52,11 @@ pub record Steps (code : List Equation) (present next : List ℕ) (end : ℕ) (o
   pub ends : ended ≡ is_on values end
 
 -- the code of the starting tick
-abbrev pub IsStarting : Built → Stmt → ℕ → Type 0
+abbrev pub IsStarting : Built → Plain → ℕ → Type 0
 IsStarting built p signals = Shows built.code built.present.items built.next.items built.end head (start p 2 1 0) signals (registers p)
 
 -- the code of the resuming tick
-abbrev pub IsResuming : Built → Stmt → ℕ → Type 0
+abbrev pub IsResuming : Built → Plain → ℕ → Type 0
 IsResuming built p signals = Shows built.code built.present.items built.next.items built.end head (resume p 2 0) signals (registers p)
 
 -- a code that can step over so many registers and signals

@@ -3,10 +3,10 @@ use Rattle.std.specs.Prelude.{ℕ, ◌+◌, ℤ, pos, Bool, true, false, ◌&&�
 use Rattle.tick_code.specs.Formulas.{is_on}
 use Rattle.tick_code.specs.declared.formula.Formula.TheVariants.{Get, Or}
 use Rattle.tick_code.specs.declared.equation.Equation.{Equation}
-use Rattle.kernel_terms.specs.Statements.{Stmt, Nothing, Pause, Emit, Seq, Loop}
-use Rattle.kernel_terms.specs.MayEnd.{ends0, ends1}
+use Rattle.sj_main.specs.definitions.Plain.{Plain, Nothing, Pause, Emit, Seq, Loop}
+use Rattle.sj_main.specs.definitions.Plain.{ends0, ends1}
 use Rattle.sj_main.specs.Residual.{registers}
-use Rattle.sj_main.specs.definitions.Signals.{Emission}
+use Rattle.kernel_rules.specs.Signals.{Emission}
 
 -- its equations, the wire that tells that it ends, and the wires that set registers and emit signals
 pub record Part : Type 0 where
@@ -25,7 +25,7 @@ joined_if true a b = joined a b
 joined_if false a b = a
 
 -- The starting copy. Its first equation gives the wire `base`, and it starts where the wire `go` is on.
-abbrev pub start : Stmt → ℕ → ℕ → ℕ → Part
+abbrev pub start : Plain → ℕ → ℕ → ℕ → Part
 start Nothing base go r = record { equations = []; done = go; sets = []; emits = [] }
 start Pause base go r = record { equations = []; done = 0; sets = (r, go) ∷ []; emits = [] }
 start (Emit s) base go r = record { equations = []; done = go; sets = []; emits = (s, go) ∷ [] }
@@ -53,7 +53,7 @@ again_if true a b = record (joined a b) { done = 0 }
 again_if false a b = record a { done = 0 }
 
 -- The resuming copy. It goes on from the registers that are on.
-abbrev pub resume : Stmt → ℕ → ℕ → Part
+abbrev pub resume : Plain → ℕ → ℕ → Part
 resume Pause base r = record { equations = record { wire = base; formula = Get r } ∷ []; done = base; sets = []; emits = [] }
 resume (Seq p q) base r =
     let c = resume q base (r + registers p) in

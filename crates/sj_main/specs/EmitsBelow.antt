@@ -1,8 +1,8 @@
 -- Statements over so many signals.
 use Rattle.std.specs.Prelude.{ℕ, ◌<◌}
-use Rattle.kernel_terms.specs.Statements.{Stmt, Emit, Seq, Loop}
+use Rattle.sj_main.specs.definitions.Plain.{Plain, Emit, Seq, Loop}
 
-abbrev pub EmitsBelow : ℕ → Stmt → Type 0
+abbrev pub EmitsBelow : ℕ → Plain → Type 0
 EmitsBelow signals (Emit s) = s < signals
 EmitsBelow signals (Seq p q) = EmitsBelow signals p × EmitsBelow signals q
 EmitsBelow signals (Loop p) = EmitsBelow signals p

@@ -1,4 +1,8 @@
 pub mod definitions
+pub mod BuiltTerms
+pub mod PlainTicks
+pub mod PlainLegal
+pub mod PlainRuns
 pub mod Sizes
 pub mod Reading
 pub mod ReadingTokens

@@ -1,13 +1,15 @@
 -- What `order` makes, and what the program writes.
-use Rattle.std.specs.Prelude.{◌≡◌, ℕ, List, length, Option}
+use Rattle.std.specs.Prelude.{◌≡◌, ℕ, List, replicate, Option}
 use Rattle.kernel_terms.specs.Systems.{tables_of}
-use Rattle.kernel_terms.specs.WellFormed.{signal_names}
+use Rattle.sj_main.specs.definitions.Programs.{pure_outputs, one_domain}
 use Rattle.sj_io.specs.Causes.{Rose}
 use Rattle.sj_io.specs.Sinks.{TakesMore, TakesFront}
 use Rattle.sj_main.specs.declared.order.Made.{Made}
 use Rattle.sj_main.specs.definitions.Grammar.{Program}
 use Rattle.sj_main.specs.definitions.Accepted.{domain_statement, IsSourceOf}
-use Rattle.sj_main.specs.definitions.Scheduled.{IsScheduledRun}
+use Rattle.domain_core.specs.Systems.{SystemState}
+use Rattle.domain_core.specs.Scheduled.{IsScheduledRun}
+use Rattle.tick_log.specs.RunText.{run_state}
 use Rattle.sj_main.specs.definitions.Commands.{IsOrder}
 use Rattle.sj_main.specs.definitions.Verdicts.{IsRunOf, IsRefusal, Outcome, IsOrderAnswer, IsAnswer}
 
@@ -15,8 +17,9 @@ use Rattle.sj_main.specs.definitions.Verdicts.{IsRunOf, IsRefusal, Outcome, IsOr
 pub record IsMadeFrom (bytes : List ℕ) (turns : ℕ) (made : Made) : Type 0 where
   pub program : Program
   pub source : IsSourceOf bytes program
-  pub signals : signal_names (tables_of made.system) ≡ program.signals
-  pub run : IsScheduledRun (length program.signals) (domain_statement program) turns made.run.domains.items
+  pub tables : tables_of made.system ≡ pure_outputs program.signals
+  pub last : SystemState
+  pub scheduled : IsScheduledRun (one_domain program.signals (domain_statement program)) (run_state made.run) (replicate turns 0) last
 
 -- the sink took the text of the run
 pub record PrintsRun (bytes : List ℕ) (turns : ℕ) (old new : Option (List ℕ)) : Type 0 where

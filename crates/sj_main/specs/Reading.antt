@@ -2,8 +2,8 @@
 use Rattle.std.specs.Prelude.{◌≡◌, ℕ, ◌+◌, ◌≤◌, List, [], ◌∷◌, length, map}
 use Rattle.kernel_terms.specs.declared.system.System.{System}
 use Rattle.kernel_terms.specs.Systems.{tables_of, domains_of}
-use Rattle.kernel_terms.specs.WellFormed.{signal_names}
-use Rattle.kernel_terms.specs.Statements.{statement}
+use Rattle.sj_main.specs.definitions.Programs.{pure_outputs}
+use Rattle.sj_main.specs.definitions.Plain.{plain}
 use Rattle.sj_main.specs.Sizes.{size_of}
 use Rattle.sj_main.specs.definitions.Tokens.{Spells}
 use Rattle.sj_main.specs.definitions.Grammar.{Program, program_tokens}
@@ -15,8 +15,8 @@ pub record IsReadAs (bytes : List ℕ) (system : System) : Type 0 where
   pub spells : Spells bytes (program_tokens program)
   pub names : KeepsNames program
   pub only : (p : Program) → Spells bytes (program_tokens p) → p ≡ program
-  pub signals : signal_names (tables_of system) ≡ program.signals
-  pub domain : map statement (domains_of system) ≡ domain_statement program ∷ []
+  pub tables : tables_of system ≡ pure_outputs program.signals
+  pub domain : map plain (domains_of system) ≡ domain_statement program ∷ []
   pub size : size_of (domain_statement program) ≤ length bytes + 1
 
 -- no program that keeps the rules on names is spelled by the bytes

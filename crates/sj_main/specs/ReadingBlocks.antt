@@ -3,8 +3,8 @@ use Rattle.std.specs.Prelude.{◌≡◌, ℕ, ◌+◌, ◌≤◌, true, List, []
 use Rattle.std.specs.List.{list_all, list_any}
 use Rattle.std.specs.Str.{bytes_eq}
 use Rattle.kernel_terms.specs.declared.term.Term.{Term}
-use Rattle.kernel_terms.specs.WellFormed.{fits_tables}
-use Rattle.kernel_terms.specs.Statements.{statement, sequence}
+use Rattle.sj_main.specs.BuiltTerms.{fits_tables}
+use Rattle.sj_main.specs.definitions.Plain.{plain, sequence}
 use Rattle.sj_main.specs.declared.token.Token.{Token}
 use Rattle.sj_main.specs.declared.token.Token.TheVariants.{Reserved, Sign, Name}
 use Rattle.sj_main.specs.declared.token.Word.TheVariants as word
@@ -45,7 +45,7 @@ pub record Reads (names : List (List ℕ)) (level : ℕ) (start : List Token) (t
   pub before : Block → Block
   pub there : (b : Block) (after : List Token) → IsClosed rest b after → IsClosed start (before b) after
   pub keeps : (b : Block) → IsBlock names level b → IsBlock names level (before b)
-  pub parts : (b : Block) → parts_of names (before b) ≡ map statement terms ++ parts_of names b
+  pub parts : (b : Block) → parts_of names (before b) ≡ map plain terms ++ parts_of names b
   pub back : (b : Block) (after : List Token) → IsClosed start b after → IsBlock names level b → Remains names level rest after
   pub fits : list_all (fits_tables (length names)) terms ≡ true
   pub shorter : length rest + length terms ≤ length start
@@ -55,7 +55,7 @@ pub record IsRead (names : List (List ℕ)) (level : ℕ) (tokens : List Token) 
   pub block : Block
   pub closed : IsClosed tokens block after
   pub keeps : IsBlock names level block
-  pub parts : map statement terms ≡ parts_of names block
+  pub parts : map plain terms ≡ parts_of names block
   pub fits : list_all (fits_tables (length names)) terms ≡ true
 
 -- no block that keeps the rules
@@ -91,5 +91,5 @@ pub record NoLoop (names : List (List ℕ)) (level : ℕ) (start : List Token) :
 
 -- the term stands for the terms one after another, and fits where they fit
 pub record IsSequence (term : Term) (terms : List Term) : Type 0 where
-  pub meaning : statement term ≡ sequence (map statement terms)
+  pub meaning : plain term ≡ sequence (map plain terms)
   pub fits : (signals : ℕ) → list_all (fits_tables signals) terms ≡ true → fits_tables signals term ≡ true

@@ -2,8 +2,8 @@
 use Rattle.std.specs.Prelude.{◌≡◌, ℕ, ◌≤◌, ◌<◌, true, List, [], ◌∷◌, ◌++◌, length, map}
 use Rattle.std.specs.List.{list_any}
 use Rattle.std.specs.Str.{bytes_eq}
-use Rattle.kernel_terms.specs.Names.{are_distinct}
-use Rattle.kernel_terms.specs.WellFormed.{most_signals}
+use Rattle.java_values.specs.Names.{are_distinct}
+use Rattle.kernel_terms.specs.Limits.{most_signals}
 use Rattle.sj_main.specs.declared.reader.names.Names.{Names}
 use Rattle.sj_main.specs.definitions.Accepted.{signal_of}
 

@@ -1,12 +1,12 @@
 -- What the steps of the reading of ports and programs answer.
 use Rattle.std.specs.Prelude.{◌≡◌, ℕ, true, List, [], ◌∷◌, ◌++◌, map}
 use Rattle.std.specs.List.{list_all}
-use Rattle.kernel_terms.specs.Names.{is_name}
+use Rattle.java_values.specs.Names.{is_name}
 use Rattle.kernel_terms.specs.declared.term.Term.{Term}
 use Rattle.kernel_terms.specs.declared.system.System.{System}
 use Rattle.kernel_terms.specs.Systems.{tables_of, domains_of}
-use Rattle.kernel_terms.specs.WellFormed.{signal_names}
-use Rattle.kernel_terms.specs.Statements.{statement, sequence}
+use Rattle.sj_main.specs.definitions.Programs.{pure_outputs}
+use Rattle.sj_main.specs.definitions.Plain.{plain, sequence}
 use Rattle.sj_main.specs.declared.token.Token.{Token}
 use Rattle.sj_main.specs.declared.token.Token.TheVariants.{Reserved, Sign, Name}
 use Rattle.sj_main.specs.declared.token.Word.TheVariants as word
@@ -54,16 +54,16 @@ pub record SignalsAreNames (tokens : List Token) : Type 0 where
   pub named : (p : Program) → tokens ≡ program_tokens p → list_all is_name p.signals ≡ true
 
 pub record IsSystemOf (names : List (List ℕ)) (terms : List Term) (system : System) : Type 0 where
-  pub signals : signal_names (tables_of system) ≡ names
-  pub domain : map statement (domains_of system) ≡ sequence (map statement terms) ∷ []
+  pub tables : tables_of system ≡ pure_outputs names
+  pub domain : map plain (domains_of system) ≡ sequence (map plain terms) ∷ []
 
 -- the tokens are those of a program that keeps the rules on names, and the system is its meaning
 pub record IsReadFrom (tokens : List Token) (system : System) : Type 0 where
   pub program : Program
   pub is : tokens ≡ program_tokens program
   pub names : KeepsNames program
-  pub signals : signal_names (tables_of system) ≡ program.signals
-  pub domain : map statement (domains_of system) ≡ domain_statement program ∷ []
+  pub tables : tables_of system ≡ pure_outputs program.signals
+  pub domain : map plain (domains_of system) ≡ domain_statement program ∷ []
 
 pub record NoProgram (tokens : List Token) : Type 0 where
   pub none : (p : Program) → tokens ≡ program_tokens p → KeepsNames p → ⊥

@@ -7,7 +7,7 @@ use Rattle.sj_main.specs.declared.token.Word.TheVariants as word
 use Rattle.sj_main.specs.declared.reader.lexer.Placed.{Placed}
 use Rattle.sj_main.specs.definitions.Tokens.{Spells, skip_white, with_rest, word_token}
 use Rattle.std.specs.List.{prefix_len, take_while}
-use Rattle.kernel_terms.specs.Names.{is_word_byte}
+use Rattle.java_values.specs.Names.{is_word_byte}
 
 abbrev pub tokens_of : List Placed → List Token
 tokens_of placed = map (λ p. p.token) placed

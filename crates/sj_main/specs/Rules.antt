@@ -1,15 +1,17 @@
 -- The static rules on a statement, and what is known of a system that keeps them.
-use Rattle.std.specs.Prelude.{ℕ, ◌≤◌, List, length}
-use Rattle.kernel_terms.specs.Statements.{Stmt}
-use Rattle.kernel_terms.specs.MayEnd.{LoopsWait}
-use Rattle.tick_log.specs.Runs.{LogState}
+use Rattle.std.specs.Prelude.{ℕ, ◌≤◌, List, replicate}
+use Rattle.sj_main.specs.definitions.Plain.{Plain}
+use Rattle.sj_main.specs.definitions.Plain.{LoopsWait}
+use Rattle.tick_log.specs.Runs.{RunState}
 use Rattle.sj_main.specs.definitions.Weight.{weight_of}
 use Rattle.kernel_terms.specs.declared.system.System.{System}
 use Rattle.sj_main.specs.Reading.{IsReadAs}
-use Rattle.sj_main.specs.definitions.Scheduled.{IsScheduledRun}
+use Rattle.domain_core.specs.Systems.{SystemState}
+use Rattle.domain_core.specs.Scheduled.{IsScheduledRun}
+use Rattle.sj_main.specs.definitions.Programs.{one_domain}
 use Rattle.sj_main.specs.definitions.Accepted.{most_weight, domain_statement, IsSourceOf}
 
-pub record KeepsStaticRules (p : Stmt) : Type 0 where
+pub record KeepsStaticRules (p : Plain) : Type 0 where
   pub loops : LoopsWait p
   pub weight : weight_of p ≤ most_weight
 
@@ -18,7 +20,8 @@ pub record Accepts (bytes : List ℕ) (system : System) : Type 0 where
   pub read : IsReadAs bytes system
   pub source : IsSourceOf bytes read.program
 
--- the logs are those of the scheduled run of the bytes' program
-pub record RunsAs (bytes : List ℕ) (system : System) (turns : ℕ) (logs : List LogState) : Type 0 where
+-- the run is the scheduled one of the bytes' program
+pub record RunsAs (bytes : List ℕ) (system : System) (turns : ℕ) (run : RunState) : Type 0 where
   pub accepts : Accepts bytes system
-  pub run : IsScheduledRun (length accepts.read.program.signals) (domain_statement accepts.read.program) turns logs
+  pub last : SystemState
+  pub scheduled : IsScheduledRun (one_domain accepts.read.program.signals (domain_statement accepts.read.program)) run (replicate turns 0) last

@@ -1,7 +1,7 @@
 -- What a domain needs to be built, and what one tick adds to its log.
 use Rattle.std.specs.Prelude.{◌≡◌, ℕ, ◌-◌, ◌≤◌, ℤ, pos, Bool, List, [], ◌∷◌, ◌++◌, replicate}
-use Rattle.kernel_terms.specs.Statements.{Stmt}
-use Rattle.kernel_terms.specs.MayEnd.{LoopsWait}
+use Rattle.sj_main.specs.definitions.Plain.{Plain}
+use Rattle.sj_main.specs.definitions.Plain.{LoopsWait}
 use Rattle.tick_log.specs.Runs.{LogState, mark_of, statuses_of}
 use Rattle.sj_main.specs.declared.built.Built.{Built}
 use Rattle.sj_main.specs.EmitsBelow.{EmitsBelow}
@@ -11,7 +11,7 @@ use Rattle.sj_main.specs.definitions.Weight.{weight_of}
 use Rattle.sj_main.specs.definitions.Accepted.{most_weight}
 
 -- the statement keeps the rules that its equations rest on
-pub record CanBuild (signals : ℕ) (p : Stmt) : Type 0 where
+pub record CanBuild (signals : ℕ) (p : Plain) : Type 0 where
   pub waits : LoopsWait p
   pub emits : EmitsBelow signals p
   pub weight : weight_of p ≤ most_weight

@@ -1,13 +1,14 @@
 // The equations of a starting and of a resuming tick.
 
 ghost use Rattle.std.specs.Prelude.{◌≡◌, ◌+◌, ◌^◌, ◌<◌, ◌≤◌, ◌∷◌, length, map, drop, slice_index_or, IfOk, OnOk};
-ghost use Rattle.kernel_terms.specs.Statements.{statement};
+ghost use Rattle.sj_main.specs.definitions.Plain.{plain};
 ghost use Rattle.sj_main.specs.Residual.{registers};
 ghost use Rattle.sj_main.specs.Circuit.{start, resume};
 ghost use Rattle.sj_main.specs.Build.{Adds, start_list, registers_of, gates, gates_of, resume_list, resume_before};
 
 use crate::shape::{count, count_all, ends0, ends1, tell_first, tell_parts};
-use kernel_terms::{Form, NoMemory, Term};
+use java_values::NoMemory;
+use kernel_terms::{Form, Term};
 use tick_code::{Equation, Formula};
 
 /// Equations, and the wires that set registers and emit signals, each with the number that it sets
@@ -24,17 +25,16 @@ pub struct Parts {
 #[cycle(start)]
 #[tactic(auto, using(crate::proofs::Lists::parts_of_sequences))]
 pub fn start(parts: &mut Parts, term: &Term, go: u32, register: u32) -> Result<u32, NoMemory>
-    requires room { register + registers (statement term.now) < 2 ^ 32 }
+    requires room { register + registers (plain term.now) < 2 ^ 32 }
     ensures wires { OnOk result (length parts.new.equations.items ≡ length parts.old.equations.items) }
-    ensures adds { IfOk result (λ done. Adds parts.old parts.new (start (statement term.now) (length parts.old.equations.items) go register) done) }
+    ensures adds { IfOk result (λ done. Adds parts.old parts.new (start (plain term.now) (length parts.old.equations.items) go register) done) }
 {
     match &term.form {
-        Form::Nothing => Ok(go),
         Form::Pause => {
             parts.sets.push((register, go))?;
             Ok(0)
         }
-        Form::Emit { signal } => {
+        Form::Emit { signal, .. } => {
             parts.emits.push((*signal, go))?;
             Ok(go)
         }
@@ -47,15 +47,16 @@ pub fn start(parts: &mut Parts, term: &Term, go: u32, register: u32) -> Result<u
             start(parts, body.get(), go, register)?;
             Ok(0)
         }
+        _ => Ok(go),
     }
 }
 
 // The starting copies of the parts of a sequence, up to the first that can't end at once.
 #[cycle(start)]
 fn start_all(parts: &mut Parts, list: &[Term], go: u32, register: u32) -> Result<u32, NoMemory>
-    requires room { register + registers_of (map statement list.now) < 2 ^ 32 }
+    requires room { register + registers_of (map plain list.now) < 2 ^ 32 }
     ensures wires { OnOk result (length parts.new.equations.items ≡ length parts.old.equations.items) }
-    ensures adds { IfOk result (λ done. Adds parts.old parts.new (start_list (map statement list.now) (length parts.old.equations.items) go register) done) }
+    ensures adds { IfOk result (λ done. Adds parts.old parts.new (start_list (map plain list.now) (length parts.old.equations.items) go register) done) }
 {
     let mut done = go;
     let mut next = register;
@@ -74,13 +75,12 @@ fn start_all(parts: &mut Parts, list: &[Term], go: u32, register: u32) -> Result
 #[cycle(resume)]
 #[tactic(auto, using(crate::proofs::Lists::parts_of_sequences))]
 pub fn resume(parts: &mut Parts, term: &Term, register: u32) -> Result<u32, NoMemory>
-    requires registers { register + registers (statement term.now) < 2 ^ 32 }
-    requires gates { length parts.old.equations.items + gates (statement term.now) + 1 < 2 ^ 32 }
-    ensures wires { OnOk result (length parts.new.equations.items ≤ length parts.old.equations.items + gates (statement term.now)) }
-    ensures adds { IfOk result (λ done. Adds parts.old parts.new (resume (statement term.now) (length parts.old.equations.items) register) done) }
+    requires registers { register + registers (plain term.now) < 2 ^ 32 }
+    requires gates { length parts.old.equations.items + gates (plain term.now) + 1 < 2 ^ 32 }
+    ensures wires { OnOk result (length parts.new.equations.items ≤ length parts.old.equations.items + gates (plain term.now)) }
+    ensures adds { IfOk result (λ done. Adds parts.old parts.new (resume (plain term.now) (length parts.old.equations.items) register) done) }
 {
     match &term.form {
-        Form::Nothing | Form::Emit { .. } => Ok(0),
         Form::Pause => {
             let wire = parts.equations.len() as u32;
             parts.equations.push(Equation {
@@ -101,15 +101,16 @@ pub fn resume(parts: &mut Parts, term: &Term, register: u32) -> Result<u32, NoMe
             }
             Ok(0)
         }
+        _ => Ok(0),
     }
 }
 
 #[cycle(resume)]
 fn resume_all(parts: &mut Parts, list: &[Term], register: u32) -> Result<u32, NoMemory>
-    requires registers { register + registers_of (map statement list.now) < 2 ^ 32 }
-    requires gates { length parts.old.equations.items + gates_of (map statement list.now) < 2 ^ 32 }
-    ensures wires { OnOk result (length parts.new.equations.items ≤ length parts.old.equations.items + gates_of (map statement list.now)) }
-    ensures adds { IfOk result (λ done. Adds parts.old parts.new (resume_list (map statement list.now) (length parts.old.equations.items) register) done) }
+    requires registers { register + registers_of (map plain list.now) < 2 ^ 32 }
+    requires gates { length parts.old.equations.items + gates_of (map plain list.now) < 2 ^ 32 }
+    ensures wires { OnOk result (length parts.new.equations.items ≤ length parts.old.equations.items + gates_of (map plain list.now)) }
+    ensures adds { IfOk result (λ done. Adds parts.old parts.new (resume_list (map plain list.now) (length parts.old.equations.items) register) done) }
 {
     let mut done = 0;
     let mut next = register + count_all(list) as u32;
@@ -132,10 +133,10 @@ fn resume_part(
     done: u32,
     register: u32,
 ) -> Result<u32, NoMemory>
-    requires registers { register + registers (statement term.now) + registers_of (map statement after.now) < 2 ^ 32 }
-    requires gates { length parts.old.equations.items + gates (statement term.now) + 1 < 2 ^ 32 }
-    ensures wires { OnOk result (length parts.new.equations.items ≤ length parts.old.equations.items + gates (statement term.now) + 1) }
-    ensures adds { IfOk result (λ end. Adds parts.old parts.new (resume_before (statement term.now) (map statement after.now) (length parts.old.equations.items) done register) end) }
+    requires registers { register + registers (plain term.now) + registers_of (map plain after.now) < 2 ^ 32 }
+    requires gates { length parts.old.equations.items + gates (plain term.now) + 1 < 2 ^ 32 }
+    ensures wires { OnOk result (length parts.new.equations.items ≤ length parts.old.equations.items + gates (plain term.now) + 1) }
+    ensures adds { IfOk result (λ end. Adds parts.old parts.new (resume_before (plain term.now) (map plain after.now) (length parts.old.equations.items) done register) end) }
 {
     let again = resume(parts, term, register)?;
     if after.is_empty() {

@@ -6,7 +6,7 @@ ghost use Rattle.sj_main.specs.Circuit.{Part};
 ghost use Rattle.sj_main.specs.Builts.{Below, Merges, Shows, Steps, CanStep, head};
 
 use crate::builder::Parts;
-use kernel_terms::NoMemory;
+use java_values::NoMemory;
 use std::alloc::Global;
 use tick_code::{Code, Equation, Formula};
 

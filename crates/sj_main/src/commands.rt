@@ -1,8 +1,11 @@
 // The words of a command.
 
-ghost use Rattle.std.specs.Prelude.{◌≡◌, ◌≢◌, ◌∷◌, List, ℕ, MatchOption};
+ghost use Rattle.std.specs.Prelude.{◌≡◌, ◌≢◌, ◌∷◌, List, ℕ, MatchOption, IfSome, ◌≤◌};
 ghost use Rattle.sj_main.specs.Words.{word_list};
-ghost use Rattle.sj_main.specs.definitions.Commands.{IsTurns, IsOrder, IsNoCommand};
+ghost use Rattle.sj_main.specs.definitions.Commands.{most_turns, IsTurns, IsOrder, IsNoCommand};
+
+/// How many turns a command may have.
+const MOST_TURNS: u32 = 3902;
 
 /// `order FILE TURNS -`: the run of so many turns of the program in a file.
 #[derive(Drop)]
@@ -25,13 +28,14 @@ fn after_comma(word: &[u8]) -> Option<&[u8]>
 // How many turns the word has.
 #[tactic(auto, using(crate::proofs::Turns::turn_steps))]
 fn read_turns(word: &[u8]) -> Option<u32>
-    ensures { MatchOption result ((turns : ℕ) → IsTurns word.now turns → ⊥) (λ turns. IsTurns word.now turns) }
+    ensures turns { MatchOption result ((turns : ℕ) → IsTurns word.now turns → ⊥) (λ turns. IsTurns word.now turns) }
+    ensures few { IfSome result (λ turns. turns ≤ most_turns) }
 {
     if word == b"-".as_slice() {
         return Some(0);
     }
     let mut rest = word;
-    for turns in 0..3902u32 {
+    for turns in 0..MOST_TURNS {
         if rest == b"0".as_slice() {
             return Some(turns + 1);
         }
@@ -45,7 +49,8 @@ fn read_turns(word: &[u8]) -> Option<u32>
 
 /// The command that the words are.
 pub fn read_order(words: &[String]) -> Option<Order<'_>>
-    ensures { MatchOption result (IsNoCommand (word_list words.now)) (λ order. IsOrder (word_list words.now) order.file.now order.turns) }
+    ensures order { MatchOption result (IsNoCommand (word_list words.now)) (λ order. IsOrder (word_list words.now) order.file.now order.turns) }
+    ensures few { IfSome result (λ order. order.turns ≤ most_turns) }
 {
     if words.len() != 4 {
         return None;

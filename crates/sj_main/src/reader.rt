@@ -15,7 +15,8 @@ ghost use Rattle.sj_main.specs.Reading.{IsReadAs, IsUnreadable};
 
 use crate::reader::lexer::lex;
 use crate::reader::program::program;
-use kernel_terms::{NoMemory, System};
+use java_values::NoMemory;
+use kernel_terms::System;
 use std::alloc::Global;
 
 /// The system of the program that the bytes are, where they are one that keeps the rules on names.

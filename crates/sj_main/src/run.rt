@@ -1,16 +1,17 @@
 // The scheduled run of a domain alone.
 
 ghost use Rattle.std.specs.Prelude.{◌≡◌, ◌+◌, ◌^◌, ◌<◌, ◌≤◌, IfOk, [], length, pos, replicate};
-ghost use Rattle.kernel_terms.specs.Statements.{statement};
+ghost use Rattle.sj_main.specs.definitions.Plain.{plain};
 ghost use Rattle.sj_main.specs.Residual.{registers};
 ghost use Rattle.sj_main.specs.Builts.{IsStarting, IsResuming, CanStep, head};
 ghost use Rattle.sj_main.specs.Running.{CanBuild, AddsTick};
-ghost use Rattle.sj_main.specs.definitions.Scheduled.{TakesTurns};
+ghost use Rattle.sj_main.specs.PlainRuns.{TakesTurns};
 
 use crate::builder::{Parts, resume, start};
 use crate::built::{Built, finish, step};
 use crate::shape::count;
-use kernel_terms::{NoMemory, Term};
+use java_values::NoMemory;
+use kernel_terms::Term;
 use std::alloc::Global;
 use tick_code::{Equation, Formula};
 use tick_log::Log;
@@ -39,9 +40,9 @@ fn begin(alloc: Global) -> Result<Parts, NoMemory>
 
 #[tactic(auto, using(crate::proofs::Starts::few))]
 fn starting(alloc: Global, term: &Term, signals: u32, count: u32) -> Result<Built, NoMemory>
-    requires count { count ≡ registers (statement term.now) }
-    requires can { CanBuild signals (statement term.now) }
-    ensures { IfOk result (λ built. IsStarting built (statement term.now) signals) }
+    requires count { count ≡ registers (plain term.now) }
+    requires can { CanBuild signals (plain term.now) }
+    ensures { IfOk result (λ built. IsStarting built (plain term.now) signals) }
 {
     let mut parts = begin(alloc)?;
     let end = start(&mut parts, term, 1, 0)?;
@@ -50,9 +51,9 @@ fn starting(alloc: Global, term: &Term, signals: u32, count: u32) -> Result<Buil
 
 #[tactic(auto, using(crate::proofs::Starts::few))]
 fn resuming(alloc: Global, term: &Term, signals: u32, count: u32) -> Result<Built, NoMemory>
-    requires count { count ≡ registers (statement term.now) }
-    requires can { CanBuild signals (statement term.now) }
-    ensures { IfOk result (λ built. IsResuming built (statement term.now) signals) }
+    requires count { count ≡ registers (plain term.now) }
+    requires can { CanBuild signals (plain term.now) }
+    ensures { IfOk result (λ built. IsResuming built (plain term.now) signals) }
 {
     let mut parts = begin(alloc)?;
     let end = resume(&mut parts, term, 0)?;
@@ -106,8 +107,8 @@ fn tick(
 /// The log of a domain's statement in so many turns. All memory is taken before the first tick.
 #[tactic(auto, using(crate::proofs::Running::running_steps))]
 pub fn run(alloc: Global, term: &Term, signals: u32, turns: u32) -> Result<Log, NoMemory>
-    requires { CanBuild signals (statement term.now) }
-    ensures takes { IfOk result (λ log. TakesTurns signals turns (statement term.now) 0 log.entries log.mark) }
+    requires { CanBuild signals (plain term.now) }
+    ensures takes { IfOk result (λ log. TakesTurns signals turns (plain term.now) 0 log.entries log.mark) }
     ensures signals { IfOk result (λ log. log.signals ≡ signals) }
 {
     let mut log = Log::open(alloc, signals, turns)?;

@@ -5,7 +5,7 @@ ghost use Rattle.sj_io.specs.Causes.{Rose};
 ghost use Rattle.sj_io.specs.Sinks.{TakesMore, TakesFront};
 ghost use Rattle.sj_main.specs.Words.{word_list};
 ghost use Rattle.sj_main.specs.Orders.{PrintsRun, PrintsRefusal, FailsToRead, BeginsAnswer, BeginsOrder};
-ghost use Rattle.sj_main.specs.definitions.Commands.{IsNoCommand};
+ghost use Rattle.sj_main.specs.definitions.Commands.{most_turns, IsNoCommand};
 ghost use Rattle.sj_main.specs.definitions.Verdicts.{usage_line, OrdersSuch};
 
 use crate::commands::read_order;
@@ -39,6 +39,7 @@ fn serve_order<F: Files, K: Sink>(
     files: &mut F,
     out: &mut K,
 ) -> u8
+    requires { turns ≤ most_turns }
     ensures statuses { (result ≡ 0) ⊎ (result ≡ 1) ⊎ (result ≡ 3) ⊎ (result ≡ 4) ⊎ (result ≡ 5) }
     ensures done { result ≡ 0 → IfSome (F.told files.old file.now) (λ bytes. PrintsRun bytes turns (K.taken out.old) (K.taken out.new)) }
     ensures refused { result ≡ 1 → IfSome (F.told files.old file.now) (λ bytes. PrintsRefusal bytes (K.taken out.old) (K.taken out.new)) }

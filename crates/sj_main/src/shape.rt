@@ -1,8 +1,8 @@
 // What a statement may do, as far as its shape tells, and how many registers it has.
 
 ghost use Rattle.std.specs.Prelude.{◌≡◌, ◌+◌, ◌^◌, ◌<◌, ◌≤◌, ◌&&◌, ◌||◌, ◌∷◌, length, slice_index_or, map, drop, IsTrue, ◌↔◌};
-ghost use Rattle.kernel_terms.specs.Statements.{statement, sequence};
-ghost use Rattle.kernel_terms.specs.MayEnd.{ends0, ends1, LoopsWait};
+ghost use Rattle.sj_main.specs.definitions.Plain.{plain, sequence};
+ghost use Rattle.sj_main.specs.definitions.Plain.{ends0, ends1, LoopsWait};
 ghost use Rattle.sj_main.specs.Residual.{registers};
 ghost use Rattle.sj_main.specs.Build.{all_end0, any_end1, registers_of, gates, gates_of};
 ghost use Rattle.sj_main.specs.Shapes.{AllLoopsWait};
@@ -13,11 +13,11 @@ use kernel_terms::{Form, Term};
 #[tactic(auto, using(crate::proofs::Lists::parts_of_sequences))]
 pub fn tell_parts(term: &Term, parts: &[Term])
     requires { term.now.form ≡ Form.Seq parts.now }
-    ensures ends0 { ends0 (statement term.now) ≡ all_end0 (map statement parts.now) }
-    ensures ends1 { ends1 (statement term.now) ≡ any_end1 (map statement parts.now) }
-    ensures waits { LoopsWait (statement term.now) ↔ AllLoopsWait (map statement parts.now) }
-    ensures registers { registers (statement term.now) ≡ registers_of (map statement parts.now) }
-    ensures gates { gates_of (map statement parts.now) ≤ gates (statement term.now) + 1 }
+    ensures ends0 { ends0 (plain term.now) ≡ all_end0 (map plain parts.now) }
+    ensures ends1 { ends1 (plain term.now) ≡ any_end1 (map plain parts.now) }
+    ensures waits { LoopsWait (plain term.now) ↔ AllLoopsWait (map plain parts.now) }
+    ensures registers { registers (plain term.now) ≡ registers_of (map plain parts.now) }
+    ensures gates { gates_of (map plain parts.now) ≤ gates (plain term.now) + 1 }
 {}
 
 // The parts from the i-th on.
@@ -26,30 +26,30 @@ pub fn tell_first(list: &[Term], i: usize, part: &Term, after: &[Term])
     requires within { i < length list.now }
     requires part { part.now ≡ slice_index_or list.now i part.now }
     requires after { after.now ≡ drop (i + 1) list.now }
-    ensures parts { map statement (drop i list.now) ≡ statement part.now ∷ map statement after.now }
-    ensures registers { registers_of (map statement (drop i list.now)) ≤ registers_of (map statement list.now) }
-    ensures gates { gates_of (map statement (drop i list.now)) ≤ gates_of (map statement list.now) }
+    ensures parts { map plain (drop i list.now) ≡ plain part.now ∷ map plain after.now }
+    ensures registers { registers_of (map plain (drop i list.now)) ≤ registers_of (map plain list.now) }
+    ensures gates { gates_of (map plain (drop i list.now)) ≤ gates_of (map plain list.now) }
 {}
 
 /// Whether the statement may end in its starting tick.
 #[cycle(ends0)]
 pub fn ends0(term: &Term) -> bool
-    ensures { result ≡ ends0 (statement term.now) }
+    ensures { result ≡ ends0 (plain term.now) }
 {
     match &term.form {
-        Form::Nothing | Form::Emit { .. } => true,
         Form::Pause | Form::Loop(_) => false,
         Form::Seq(parts) => {
             let parts = parts.as_slice();
             tell_parts(term, parts);
             all_end0(parts)
         }
+        _ => true,
     }
 }
 
 #[cycle(ends0)]
 fn all_end0(parts: &[Term]) -> bool
-    ensures { result ≡ all_end0 (map statement parts.now) }
+    ensures { result ≡ all_end0 (map plain parts.now) }
 {
     for part in parts {
         if !ends0(part) {
@@ -62,22 +62,22 @@ fn all_end0(parts: &[Term]) -> bool
 /// Whether the statement may end in a later tick.
 #[cycle(ends1)]
 pub fn ends1(term: &Term) -> bool
-    ensures { result ≡ ends1 (statement term.now) }
+    ensures { result ≡ ends1 (plain term.now) }
 {
     match &term.form {
         Form::Pause => true,
-        Form::Nothing | Form::Emit { .. } | Form::Loop(_) => false,
         Form::Seq(parts) => {
             let parts = parts.as_slice();
             tell_parts(term, parts);
             any_end1(parts)
         }
+        _ => false,
     }
 }
 
 #[cycle(ends1)]
 fn any_end1(parts: &[Term]) -> bool
-    ensures { result ≡ any_end1 (map statement parts.now) }
+    ensures { result ≡ any_end1 (map plain parts.now) }
 {
     let mut may = false;
     for part in parts {
@@ -89,22 +89,22 @@ fn any_end1(parts: &[Term]) -> bool
 /// Whether no loop's body may end in its starting tick.
 #[cycle(waits)]
 pub fn loops_wait(term: &Term) -> bool
-    ensures { IsTrue result ↔ LoopsWait (statement term.now) }
+    ensures { IsTrue result ↔ LoopsWait (plain term.now) }
 {
     match &term.form {
-        Form::Nothing | Form::Pause | Form::Emit { .. } => true,
         Form::Loop(body) => !ends0(body.get()) && loops_wait(body.get()),
         Form::Seq(parts) => {
             let parts = parts.as_slice();
             tell_parts(term, parts);
             all_loops_wait(parts)
         }
+        _ => true,
     }
 }
 
 #[cycle(waits)]
 fn all_loops_wait(parts: &[Term]) -> bool
-    ensures { IsTrue result ↔ AllLoopsWait (map statement parts.now) }
+    ensures { IsTrue result ↔ AllLoopsWait (map plain parts.now) }
 {
     for part in parts {
         if !loops_wait(part) {
@@ -117,8 +117,8 @@ fn all_loops_wait(parts: &[Term]) -> bool
 /// How many registers the statement has: one for each pause.
 #[cycle(count)]
 pub fn count(term: &Term) -> usize
-    requires room { registers (statement term.now) < 2 ^ 32 }
-    ensures { result ≡ registers (statement term.now) }
+    requires room { registers (plain term.now) < 2 ^ 32 }
+    ensures { result ≡ registers (plain term.now) }
 {
     match &term.form {
         Form::Pause => 1,
@@ -128,14 +128,14 @@ pub fn count(term: &Term) -> usize
             count_all(parts)
         }
         Form::Loop(body) => count(body.get()),
-        Form::Nothing | Form::Emit { .. } => 0,
+        _ => 0,
     }
 }
 
 #[cycle(count)]
 pub fn count_all(parts: &[Term]) -> usize
-    requires room { registers_of (map statement parts.now) < 2 ^ 32 }
-    ensures { result ≡ registers_of (map statement parts.now) }
+    requires room { registers_of (map plain parts.now) < 2 ^ 32 }
+    ensures { result ≡ registers_of (map plain parts.now) }
 {
     let mut sum = 0;
     for part in parts {

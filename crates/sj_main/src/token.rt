@@ -1,4 +1,4 @@
-use kernel_terms::Text;
+use java_values::Text;
 
 /// A reserved word of the built forms.
 #[derive(Clone, Copy, Debug, PartialEq, Eq)]

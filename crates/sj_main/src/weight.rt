@@ -1,8 +1,8 @@
 // The weight of a statement: the leaves of its starting and of its resuming tree.
 
 ghost use Rattle.std.specs.Prelude.{◌≡◌, ◌+◌, ◌∷◌, map, cond};
-ghost use Rattle.kernel_terms.specs.Statements.{statement};
-ghost use Rattle.kernel_terms.specs.MayEnd.{ends0, ends1};
+ghost use Rattle.sj_main.specs.definitions.Plain.{plain};
+ghost use Rattle.sj_main.specs.definitions.Plain.{ends0, ends1};
 ghost use Rattle.sj_main.specs.Weights.{starting_weight, resuming_weight, starting_rest, resuming_rest, capped, Weighs};
 ghost use Rattle.sj_main.specs.definitions.Weight.{weight_of};
 
@@ -18,7 +18,7 @@ pub struct Copies {
 
 /// The weight of a domain's statement, up to 2^64 - 1.
 pub fn weight(term: &Term) -> u64
-    ensures { result ≡ capped (weight_of (statement term.now)) }
+    ensures { result ≡ capped (weight_of (plain term.now)) }
 {
     let copies = weigh(term);
     copies.starting.saturating_add(copies.resuming)
@@ -27,13 +27,9 @@ pub fn weight(term: &Term) -> u64
 #[cycle(weigh)]
 #[tactic(auto, using(crate::proofs::WeightLemmas::weights_of_sequences))]
 fn weigh(term: &Term) -> Copies
-    ensures { Weighs (starting_weight (statement term.now)) (resuming_weight (statement term.now)) result }
+    ensures { Weighs (starting_weight (plain term.now)) (resuming_weight (plain term.now)) result }
 {
     match &term.form {
-        Form::Nothing | Form::Emit { .. } => Copies {
-            starting: 1,
-            resuming: 0,
-        },
         Form::Pause => Copies {
             starting: 1,
             resuming: 1,
@@ -52,6 +48,10 @@ fn weigh(term: &Term) -> Copies
             let body = body.get();
             again(weigh(body), ends1(body))
         }
+        _ => Copies {
+            starting: 1,
+            resuming: 0,
+        },
     }
 }
 
@@ -70,7 +70,7 @@ fn again(body: Copies, ends: bool) -> Copies
 #[cycle(weigh)]
 #[tactic(auto, using(crate::proofs::WeightLemmas::rest_steps))]
 fn weigh_all(parts: &[Term]) -> Copies
-    ensures { Weighs (starting_rest (map statement parts.now)) (resuming_rest (map statement parts.now)) result }
+    ensures { Weighs (starting_rest (map plain parts.now)) (resuming_rest (map plain parts.now)) result }
 {
     let mut all = Copies {
         starting: 0,

@@ -2,10 +2,10 @@
 use Rattle.std.specs.Prelude.{◌≡◌, ℕ, ◌+◌, ◌≤◌, max, true, List, [], ◌∷◌, length}
 use Rattle.std.specs.List.{list_any, position_or_len}
 use Rattle.std.specs.Str.{bytes_eq}
-use Rattle.kernel_terms.specs.Names.{are_distinct}
-use Rattle.kernel_terms.specs.WellFormed.{most_signals}
-use Rattle.kernel_terms.specs.Statements.{Stmt, Nothing, Pause, Emit, Loop, sequence}
-use Rattle.kernel_terms.specs.MayEnd.{LoopsWait}
+use Rattle.java_values.specs.Names.{are_distinct}
+use Rattle.kernel_terms.specs.Limits.{most_signals}
+use Rattle.sj_main.specs.definitions.Plain.{Plain, Nothing, Pause, Emit, Loop, sequence}
+use Rattle.sj_main.specs.definitions.Plain.{LoopsWait}
 use Rattle.sj_main.specs.definitions.Weight.{weight_of}
 use Rattle.sj_main.specs.definitions.Tokens.{Spells}
 use Rattle.sj_main.specs.definitions.Grammar.{Block, Done, EmptyThen, PauseThen, EmitThen, WhileThen, Program, program_tokens}
@@ -24,7 +24,7 @@ abbrev pub signal_of : List (List ℕ) → List ℕ → ℕ
 signal_of names name = position_or_len (bytes_eq name) names
 
 -- the statements that the parts of a block stand for
-abbrev pub parts_of : List (List ℕ) → Block → List Stmt
+abbrev pub parts_of : List (List ℕ) → Block → List Plain
 parts_of names Done = []
 parts_of names (EmptyThen rest) = Nothing ∷ parts_of names rest
 parts_of names (PauseThen rest) = Pause ∷ parts_of names rest
@@ -47,7 +47,7 @@ opens (PauseThen rest) = opens rest
 opens (EmitThen name rest) = opens rest
 opens (WhileThen body rest) = max (1 + opens body) (opens rest)
 
-abbrev pub domain_statement : Program → Stmt
+abbrev pub domain_statement : Program → Plain
 domain_statement p = sequence (parts_of p.signals p.body)
 
 -- The rules on names and limits. At a domain's statements two `{` are open.

@@ -2,7 +2,7 @@
 use Rattle.std.specs.Prelude.{◌≡◌, ℕ, Bool, ◌||◌, ◌==◌, cond, List, [], ◌∷◌, drop, Option, Some, None, codes}
 use Rattle.std.specs.List.{prefix_len, take_while}
 use Rattle.std.specs.Str.{bytes_eq}
-use Rattle.kernel_terms.specs.Names.{is_letter, is_word_byte, is_name}
+use Rattle.java_values.specs.Names.{is_letter, is_word_byte, is_name}
 use Rattle.sj_main.specs.declared.token.Token.{Token}
 use Rattle.sj_main.specs.declared.token.Token.TheVariants.{Reserved, Sign, Name}
 use Rattle.sj_main.specs.declared.token.Word.TheVariants as word

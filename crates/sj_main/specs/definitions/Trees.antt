@@ -1,7 +1,7 @@
 -- The copies of statements that a starting and a resuming tick may pass.
 use Rattle.std.specs.Prelude.{cond, Option, Some, None}
-use Rattle.kernel_terms.specs.Statements.{Stmt, Nothing, Pause, Emit, Seq, Loop}
-use Rattle.kernel_terms.specs.MayEnd.{ends0, ends1}
+use Rattle.sj_main.specs.definitions.Plain.{Plain, Nothing, Pause, Emit, Seq, Loop}
+use Rattle.sj_main.specs.definitions.Plain.{ends0, ends1}
 
 -- a leaf is one copy of one statement; two trees stand one after the other, or one of them is passed
 pub data TickTree : Type 0 where
@@ -9,7 +9,7 @@ pub data TickTree : Type 0 where
   InTurn : (first second : TickTree) → TickTree
   OneOf : (left right : TickTree) → TickTree
 
-abbrev pub starting_tree : Stmt → TickTree
+abbrev pub starting_tree : Plain → TickTree
 starting_tree Nothing = Leaf
 starting_tree Pause = Leaf
 starting_tree (Emit s) = Leaf
@@ -26,7 +26,7 @@ one_of (Some s) None = Some s
 one_of (Some s) (Some t) = Some (OneOf s t)
 
 -- none where no later tick of the statement does anything
-abbrev pub resuming_tree : Stmt → Option TickTree
+abbrev pub resuming_tree : Plain → Option TickTree
 resuming_tree Nothing = None
 resuming_tree Pause = Some Leaf
 resuming_tree (Emit s) = None

@@ -1,9 +1,11 @@
 -- What is answered, in the order in which it is looked for: the words, the reading of the source, its
 -- size, its grammar and rules, and then the run.
-use Rattle.std.specs.Prelude.{◌≡◌, ◌⊎◌, ℕ, ◌<◌, ◌≤◌, List, length, Option, IfSome, codes}
-use Rattle.tick_log.specs.Runs.{LogState}
+use Rattle.std.specs.Prelude.{◌≡◌, ◌⊎◌, ℕ, ◌<◌, ◌≤◌, List, length, replicate, Option, IfSome, codes}
+use Rattle.tick_log.specs.Runs.{RunState}
 use Rattle.tick_log.specs.RunText.{run_text}
-use Rattle.sj_main.specs.definitions.Scheduled.{IsScheduledRun}
+use Rattle.domain_core.specs.Systems.{SystemState}
+use Rattle.domain_core.specs.Scheduled.{IsScheduledRun}
+use Rattle.sj_main.specs.definitions.Programs.{pure_outputs, one_domain}
 use Rattle.sj_main.specs.definitions.Grammar.{Program}
 use Rattle.sj_main.specs.definitions.Accepted.{most_source_bytes, domain_statement, IsSourceOf, IsAccepted}
 use Rattle.sj_main.specs.definitions.Commands.{IsOrder, IsNoCommand}
@@ -15,9 +17,10 @@ usage_line = codes "usage: check FILE | order FILE TURNS INPUTS | run FILE TICKS
 pub record IsRunOf (bytes : List ℕ) (turns : ℕ) (text : List ℕ) : Type 0 where
   pub program : Program
   pub source : IsSourceOf bytes program
-  pub logs : List LogState
-  pub run : IsScheduledRun (length program.signals) (domain_statement program) turns logs
-  pub is : text ≡ run_text program.signals logs
+  pub run : RunState
+  pub last : SystemState
+  pub scheduled : IsScheduledRun (one_domain program.signals (domain_statement program)) run (replicate turns 0) last
+  pub is : text ≡ run_text (pure_outputs program.signals) run
 
 -- the first check that fails refuses the bytes with this line
 abbrev pub IsRefusal : List ℕ → List ℕ → Type 0

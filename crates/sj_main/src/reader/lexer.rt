@@ -4,7 +4,7 @@ ghost use Rattle.sj_main.specs.ReadingTokens.{tokens_of, Lexed, word_front, Spel
 
 use super::words::{is_letter, sign_token, white_len, word_len, word_token};
 use crate::token::Token;
-use kernel_terms::NoMemory;
+use java_values::NoMemory;
 use std::alloc::Global;
 
 /// A token, with the offset of its first byte.

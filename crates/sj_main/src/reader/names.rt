@@ -1,12 +1,14 @@
 ghost use Rattle.std.specs.Prelude.{◌≡◌, ◌+◌, ◌≤◌, ◌<◌, [], ◌∷◌, ◌++◌, false, true, IfOk, IfSome, MatchOption, MatchBool, OnOk, length, map};
 ghost use Rattle.std.specs.List.{list_any};
 ghost use Rattle.std.specs.Str.{bytes_eq};
-ghost use Rattle.kernel_terms.specs.WellFormed.{most_signals};
+ghost use Rattle.kernel_terms.specs.Limits.{most_signals};
 ghost use Rattle.sj_main.specs.definitions.Accepted.{signal_of};
+ghost use Rattle.sj_main.specs.definitions.Programs.{pure_output};
 ghost use Rattle.sj_main.specs.ReadingNames.{names_of, AreNames, IsPlace, Declared, IsRefused};
 
 use indexmap::IndexSet;
-use kernel_terms::{NoMemory, SignalInfo, Text};
+use java_values::{NoMemory, Text};
+use kernel_terms::{Combine, SignalInfo, Sort};
 use std::alloc::Global;
 
 /// How many signals a program may have.
@@ -52,12 +54,18 @@ impl Names {
 
     /// The signals of these names.
     pub fn signals(&self, alloc: Global) -> Result<Vec<SignalInfo>, NoMemory>
-        ensures { IfOk result (λ v. map (λ s. s.name) v.items ≡ names_of self.now) }
+        ensures { IfOk result (λ v. v.items ≡ map pure_output (names_of self.now)) }
     {
         let mut signals = Vec::new(alloc);
         for name in self.set.as_slice() {
             let name = Text::new(alloc, name)?;
-            signals.push(SignalInfo { name })?;
+            signals.push(SignalInfo {
+                name,
+                domain: 0,
+                sort: Sort::Output,
+                kind: None,
+                combine: Combine::Max,
+            })?;
         }
         Ok(signals)
     }

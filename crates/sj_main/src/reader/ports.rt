@@ -7,7 +7,7 @@ use crate::reader::lexer::Placed;
 use crate::reader::names::Names;
 use crate::reader::steps::{Named, after_sign, after_word, first_name};
 use crate::token::{Mark, Word};
-use kernel_terms::NoMemory;
+use java_values::NoMemory;
 use std::alloc::Global;
 
 /// The names of the ports, and the tokens after their brace.

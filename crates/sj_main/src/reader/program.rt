@@ -1,7 +1,7 @@
 ghost use Rattle.std.specs.Prelude.{◌≡◌, true, IfOk, MatchBool, MatchOption, length, [], ◌∷◌};
 ghost use Rattle.std.specs.List.{list_all};
-ghost use Rattle.kernel_terms.specs.Names.{is_name};
-ghost use Rattle.kernel_terms.specs.WellFormed.{fits_tables};
+ghost use Rattle.java_values.specs.Names.{is_name};
+ghost use Rattle.sj_main.specs.BuiltTerms.{fits_tables};
 ghost use Rattle.sj_main.specs.declared.token.Token.TheVariants.{Sign};
 ghost use Rattle.sj_main.specs.declared.token.Mark.TheVariants as mark;
 ghost use Rattle.sj_main.specs.ReadingTokens.{tokens_of};
@@ -14,7 +14,8 @@ use crate::reader::ports::{Signals, ports};
 use crate::reader::statements::{Body, block, first_offset, sequence};
 use crate::reader::steps::{after_sign, after_word};
 use crate::token::{Mark, Word};
-use kernel_terms::{NoMemory, System, Tables, Term};
+use java_values::NoMemory;
+use kernel_terms::{System, Tables, Term};
 use sqlite_items::Items;
 use std::alloc::Global;
 
@@ -38,7 +39,12 @@ fn make_system(alloc: Global, names: &Names, at: u32, terms: Vec<Term>) -> Resul
     let signals = Items::from_vec(names.signals(alloc)?);
     let mut domains = Vec::new(alloc);
     domains.push(sequence(at, terms))?;
-    Ok(System::new(Tables { signals }, Items::from_vec(domains)))
+    let tables = Tables {
+        signals,
+        channels: Items::new(alloc),
+        variables: Items::new(alloc),
+    };
+    Ok(System::new(tables, Items::from_vec(domains)))
 }
 
 /// The tokens after a program's statements.

@@ -10,7 +10,8 @@ use crate::reader::lexer::Placed;
 use crate::reader::names::Names;
 use crate::reader::steps::{after_sign, after_word, first_name};
 use crate::token::{Mark, Word};
-use kernel_terms::{Form, NoMemory, Term};
+use java_values::NoMemory;
+use kernel_terms::{Form, Term};
 use sqlite_items::{Boxed, Items};
 use std::alloc::Global;
 
@@ -86,7 +87,10 @@ fn emit<'a>(names: &Names, tokens: &'a [Placed]) -> Option<Read<'a>>
     let signal = names.place(named.name.bytes())?;
     let term = Term {
         at: first_offset(tokens),
-        form: Form::Emit { signal },
+        form: Form::Emit {
+            signal,
+            value: None,
+        },
     };
     Some(Read { term, rest })
 }

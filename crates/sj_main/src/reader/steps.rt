@@ -5,7 +5,7 @@ ghost use Rattle.sj_main.specs.ReadingBlocks.{BeginsNot, BeginsNoName, IsNot, Is
 
 use crate::reader::lexer::Placed;
 use crate::token::{Mark, Token, Word};
-use kernel_terms::Text;
+use java_values::Text;
 
 fn is_sign(token: &Token, wanted: Mark) -> bool
     ensures { MatchBool result (token.now ≡ Sign wanted) (IsNot token.now (Sign wanted)) }

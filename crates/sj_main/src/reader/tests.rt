@@ -1,5 +1,5 @@
 use crate::reader::read_source;
-use kernel_terms::NoMemory;
+use java_values::NoMemory;
 use std::alloc::{AllocError, Global};
 use std::test::Fail;
 

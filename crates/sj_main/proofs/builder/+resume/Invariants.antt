@@ -1,11 +1,11 @@
 use Rattle.std.proofs.Common.{◌≡◌, ◌+◌, ◌≤◌, map, drop, length}
-use Rattle.kernel_terms.specs.Statements.{statement}
+use Rattle.sj_main.specs.definitions.Plain.{plain}
 use Rattle.sj_main.specs.Build.{Adds, registers_of, gates_of, resume_list}
 use Rattle.sj_main.proofs.builder.+resume.Given as goal
 
 abbrev pub invariant-resume_all-loop-i : goal.invariant-resume_all-loop-i
 invariant-resume_all-loop-i l =
-    Adds l.initial.parts l.parts (resume_list (map statement (drop l.i l.list)) (length l.initial.parts.equations.items) l.next) l.done
-    × (l.next + registers_of (map statement (drop l.i l.list)) ≡ l.register + registers_of (map statement l.list))
+    Adds l.initial.parts l.parts (resume_list (map plain (drop l.i l.list)) (length l.initial.parts.equations.items) l.next) l.done
+    × (l.next + registers_of (map plain (drop l.i l.list)) ≡ l.register + registers_of (map plain l.list))
     × (l.register ≤ l.next)
-    × (length l.parts.equations.items ≤ length l.initial.parts.equations.items + gates_of (map statement (drop l.i l.list)))
+    × (length l.parts.equations.items ≤ length l.initial.parts.equations.items + gates_of (map plain (drop l.i l.list)))

@@ -1,7 +1,7 @@
 use Rattle.std.proofs.Common.{◌≡◌, map, drop}
-use Rattle.kernel_terms.specs.Statements.{statement}
+use Rattle.sj_main.specs.definitions.Plain.{plain}
 use Rattle.sj_main.specs.Build.{all_end0}
 use Rattle.sj_main.proofs.shape.+ends0.Given as goal
 
 abbrev pub invariant-all_end0-loop-part : goal.invariant-all_end0-loop-part
-invariant-all_end0-loop-part l = all_end0 (map statement l.parts) ≡ all_end0 (map statement (drop l.part-index l.parts))
+invariant-all_end0-loop-part l = all_end0 (map plain l.parts) ≡ all_end0 (map plain (drop l.part-index l.parts))

@@ -1,8 +1,8 @@
 use Rattle.std.proofs.Common.{◌≡◌, ◌&&◌, ◌||◌, map, drop}
-use Rattle.kernel_terms.specs.Statements.{statement}
+use Rattle.sj_main.specs.definitions.Plain.{plain}
 use Rattle.sj_main.specs.Build.{all_end0, any_end1}
 use Rattle.sj_main.proofs.shape.+ends1.Given as goal
 
 abbrev pub invariant-any_end1-loop-part : goal.invariant-any_end1-loop-part
 invariant-any_end1-loop-part l =
-    any_end1 (map statement l.parts) ≡ any_end1 (map statement (drop l.part-index l.parts)) || (l.may && all_end0 (map statement (drop l.part-index l.parts)))
+    any_end1 (map plain l.parts) ≡ any_end1 (map plain (drop l.part-index l.parts)) || (l.may && all_end0 (map plain (drop l.part-index l.parts)))

@@ -1,7 +1,7 @@
 use Rattle.std.proofs.Common.{map, drop}
-use Rattle.kernel_terms.specs.Statements.{statement}
+use Rattle.sj_main.specs.definitions.Plain.{plain}
 use Rattle.sj_main.specs.Weights.{starting_rest, resuming_rest, Weighs}
 use Rattle.sj_main.proofs.weight.+weigh.Given as goal
 
 abbrev pub invariant-weigh_all-loop-i : goal.invariant-weigh_all-loop-i
-invariant-weigh_all-loop-i l = Weighs (starting_rest (map statement (drop l.i l.parts))) (resuming_rest (map statement (drop l.i l.parts))) l.all
+invariant-weigh_all-loop-i l = Weighs (starting_rest (map plain (drop l.i l.parts))) (resuming_rest (map plain (drop l.i l.parts))) l.all

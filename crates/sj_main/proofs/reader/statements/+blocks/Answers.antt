@@ -1,7 +1,7 @@
 use Rattle.std.proofs.Common.{refl, [], ◌∷◌}
 use Rattle.kernel_terms.specs.declared.term.Term as term
 use Rattle.kernel_terms.specs.declared.term.Form as form
-use Rattle.kernel_terms.proofs.Layers.{statement-Loop}
+use Rattle.sj_main.proofs.PlainLayers.{plain-Loop}
 use Rattle.sj_main.specs.ReadingTokens.{tokens_of}
 use Rattle.sj_main.specs.ReadingNames.{names_of}
 use Rattle.sj_main.proofs.ReadTerms.{fits-Loop}
@@ -25,7 +25,7 @@ loop_statement-returns t c =
     let x : term.Term = term.roll-Term (record { at = c.first_offset-2.result; form = form.Loop c.in_ok-body.body }) in
     let r = rw c.in-Some-2.is at c.in_ok-terms.ensures in
     reads_loop_of (names_of c.args.names.now) c.args.level (tokens_of c.args.tokens.now) (tokens_of c.in-Some.inner.now) (tokens_of c.in-Some-2.field-0.rest.now) c.in-Some-2.field-0.terms.items x c.in_ok-body.body
-    c.in-Some.ensures r (rw c.in_ok-body.ensures c.sequence.ensures) (statement-Loop x c.in_ok-body.body refl) (λ n. fits-Loop n x c.in_ok-body.body refl)
+    c.in-Some.ensures r (rw c.in_ok-body.ensures c.sequence.ensures) (plain-Loop x c.in_ok-body.body refl) (λ n. fits-Loop n x c.in_ok-body.body refl)
 
 pub statement-returns : goal.statement-returns
 statement-returns t c = IfOk-weaker c.loop_statement.result

@@ -1,27 +1,27 @@
--- The tick rule: what a statement does in one tick.
+-- The tick rule of built statements, which is that of the rules on them (proofs/Scheduling).
 use Rattle.std.specs.Prelude.{◌≡◌, ◌≢◌, ℕ, zero, suc, pos, List, [], ◌∷◌, ◌++◌}
-use Rattle.kernel_terms.specs.Statements.{Stmt, Nothing, Pause, Emit, Seq, Loop}
-use Rattle.sj_main.specs.definitions.Signals.{Emission, Env}
+use Rattle.sj_main.specs.definitions.Plain.{Plain, Nothing, Pause, Emit, Seq, Loop}
+use Rattle.kernel_rules.specs.Signals.{Emission, Env}
 
 -- A tick: its completion code, what the statement leaves, and its emissions in order. Code 0 is ended,
 -- code 1 is paused.
 pub record Tick : Type 0 where
   pub code : ℕ
-  pub rest : Stmt
+  pub rest : Plain
   pub emits : List Emission
 
 -- a code other than 1 leaves nothing
-abbrev pub left_at : ℕ → Stmt → Stmt
+abbrev pub left_at : ℕ → Plain → Plain
 left_at (suc zero) t = t
 left_at _ t = Nothing
 
 -- the second part of a sequence ticks where the first has ended
-abbrev pub Continues : (Tick → Type 0) → Stmt → Tick → ℕ → Tick → Type 0
+abbrev pub Continues : (Tick → Type 0) → Plain → Tick → ℕ → Tick → Type 0
 Continues second q a zero o = (b : Tick) × second b × (o ≡ record { code = b.code; rest = b.rest; emits = a.emits ++ b.emits })
 Continues second q a (suc k) o = o ≡ record { code = suc k; rest = left_at (suc k) (Seq a.rest q); emits = a.emits }
 
 -- the statement makes this tick in the environment
-abbrev pub Ticks : Stmt → Env → Tick → Type 0
+abbrev pub Ticks : Plain → Env → Tick → Type 0
 Ticks Nothing env o = o ≡ record { code = 0; rest = Nothing; emits = [] }
 Ticks Pause env o = o ≡ record { code = 1; rest = Nothing; emits = [] }
 Ticks (Emit s) env o = o ≡ record { code = 0; rest = Nothing; emits = record { signal = s; value = pos 0 } ∷ [] }

@@ -1,9 +1,9 @@
--- The run of given turns. With one domain each turn is a turn of that domain.
+-- The log of a built statement in so many turns.
 use Rattle.std.specs.Prelude.{◌≡◌, ℕ, zero, suc, ◌+◌, ℤ, List, [], ◌∷◌, Option}
-use Rattle.kernel_terms.specs.Statements.{Stmt}
-use Rattle.tick_log.specs.Runs.{Entry, Mark, Going, Ended, LogState}
-use Rattle.sj_main.specs.definitions.TickRule.{Tick}
-use Rattle.sj_main.specs.definitions.LegalTick.{IsLegalTick}
+use Rattle.sj_main.specs.definitions.Plain.{Plain}
+use Rattle.tick_log.specs.Runs.{Entry, Mark, Going, Ended}
+use Rattle.sj_main.specs.PlainTicks.{Tick}
+use Rattle.sj_main.specs.PlainLegal.{IsLegalTick}
 
 -- code 0 ends the domain, and its further turns are skipped
 abbrev pub GoesOn : (List Entry → Mark → Type 0) → ℕ → List Entry → Mark → Type 0
@@ -12,15 +12,9 @@ GoesOn next (suc k) entries mark = next entries mark
 
 -- The log of a domain in so many turns from a statement on. Each tick is legal, and its stamp is 1 more
 -- than `last`, the stamp of the tick before it, or 0.
-abbrev pub TakesTurns : ℕ → ℕ → Stmt → ℕ → List Entry → Mark → Type 0
+abbrev pub TakesTurns : ℕ → ℕ → Plain → ℕ → List Entry → Mark → Type 0
 TakesTurns signals zero p last entries mark = (entries ≡ []) × (mark ≡ Going)
 TakesTurns signals (suc turns) p last entries mark =
     (o : Tick) × (statuses : List (Option ℤ)) × (rest : List Entry) × IsLegalTick p signals statuses o
     × (entries ≡ record { stamp = last + 1; statuses = statuses } ∷ rest)
     × GoesOn (TakesTurns signals turns o.rest (last + 1)) o.code rest mark
-
--- the run of the turns: one log, which the domain makes from its statement on
-pub record IsScheduledRun (signals : ℕ) (p : Stmt) (turns : ℕ) (logs : List LogState) : Type 0 where
-  pub log : LogState
-  pub only : logs ≡ log ∷ []
-  pub takes : TakesTurns signals turns p 0 log.entries log.mark
