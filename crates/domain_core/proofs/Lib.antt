@@ -10,3 +10,14 @@ pub mod Converse
 pub mod StepStamps
 pub mod Turns
 pub mod Rendezvous
+pub mod CellMoves
+pub mod CellJoins
+pub mod RoundsRun
+pub mod RoundsStamps
+pub mod Rest
+pub mod Interleaved
+pub mod RoundsGrow
+pub mod FittingRounds
+pub mod MovesGrow
+pub mod Standing
+pub mod Closing

@@ -6,7 +6,7 @@ use Rattle.kernel_terms.specs.Expressions.{ChannelValue}
 use Rattle.kernel_terms.specs.Statements.{Emit, Seq, SendWaits, ReceiveWaits}
 use Rattle.kernel_rules.specs.Signals.{put_at, Env}
 use Rattle.kernel_rules.specs.TickRule.{Tick, Ticks, has_ended, quiet, ends_with, as_whole}
-use Rattle.kernel_rules.specs.LegalTick.{DomainState, status_in, values_after, shown_statuses}
+use Rattle.kernel_rules.specs.LegalTick.{DomainState, IsLegalTick, status_in, values_after, shown_statuses}
 use Rattle.tick_log.specs.Runs.{mark_of, log_of, tick_count, join_count}
 use Rattle.domain_core.specs.Systems.{Setup, SystemState, JoinRecord, Move, MakesTick, MakesJoin, TickStep, JoinStep, IsSystem, IsFresh, WaitsToSend, WaitsToReceive, start, start_of, sender_of, receiver_of, send_done, receive_done}
 use Rattle.domain_core.specs.LegalRuns.{IsLegalRun}
@@ -16,10 +16,10 @@ use Rattle.domain_core.proofs.Places.{put_apart}
 use Rattle.domain_core.proofs.Turns.{scheduled_runs_are_whole}
 
 -- the statuses in a tick, and the state after it
-abbrev env_in : Setup → DomainState → Tick → Env
+abbrev pub env_in : Setup → DomainState → Tick → Env
 env_in p s o = status_in p.tables (λ n. p.inputs n (suc s.ticks)) s.values o.emits
 
-abbrev after : Setup → ℕ → DomainState → Tick → DomainState
+abbrev pub after : Setup → ℕ → DomainState → Tick → DomainState
 after p d s o = record {
   statement = o.rest;
   variables = o.variables;
@@ -32,28 +32,28 @@ after p d s o = record {
 abbrev ticked : Setup → ℕ → SystemState → Tick → SystemState
 ticked p d s o = record s { domain = put_at s.domain d (after p d (s.domain d) o) }
 
+pub legal_tick : (p : Setup) (d : ℕ) (s : DomainState) (o : Tick) → s.ended ≡ false → Ticks p.tables s.last s.statement (env_in p s o) s.variables o → o.code ≤ 1 →
+    IsLegalTick p.tables p.inputs d s (shown_statuses p.tables d (env_in p s o)) (after p d s o)
+legal_tick p d s o goes_on t code = record { goes_on = goes_on; env = env_in p s o; tick = o; ticks = t; coherent = λ n h. refl; code = code; shows = refl; next = refl }
+
 tick_step : (p : Setup) (d : ℕ) (s : SystemState) (o : Tick) → (s.domain d).ended ≡ false →
     Ticks p.tables (s.domain d).last (s.domain d).statement (env_in p (s.domain d) o) (s.domain d).variables o → o.code ≤ 1 →
     TickStep p s d (shown_statuses p.tables d (env_in p (s.domain d) o)) (ticked p d s o)
-tick_step p d s o goes_on t code = record {
-  after = after p d (s.domain d) o;
-  legal = record { goes_on = goes_on; env = env_in p (s.domain d) o; tick = o; ticks = t; coherent = λ n h. refl; code = code; shows = refl; next = refl };
-  next = refl;
-}
+tick_step p d s o goes_on t code = record { after = after p d (s.domain d) o; legal = legal_tick p d (s.domain d) o goes_on t code; next = refl }
 
-abbrev zeros : ℕ → ℤ
+abbrev pub zeros : ℕ → ℤ
 zeros n = pos 0
 
-abbrev sending : Tick
+abbrev pub sending : Tick
 sending = as_whole 1 (Seq (SendWaits 0 (pos 5)) (Emit 0 None)) (quiet 1 (SendWaits 0 (pos 5)) zeros)
 
-abbrev receiving : Tick
+abbrev pub receiving : Tick
 receiving = as_whole 1 (Seq (ReceiveWaits 0) (Emit 1 (Some (ChannelValue kind.Int 0)))) (quiet 1 (ReceiveWaits 0) zeros)
 
-abbrev sent : Tick
+abbrev pub sent : Tick
 sent = ends_with (record { signal = 0; value = pos 0 } ∷ []) zeros
 
-abbrev received : Tick
+abbrev pub received : Tick
 received = ends_with (record { signal = 1; value = pos 5 } ∷ []) zeros
 
 abbrev s1 : SystemState
@@ -189,7 +189,7 @@ fresh = record { sends = s; receives = g }
     g (suc zero) c h = either (λ x. x) (λ x. x) h
     g (suc (suc d)) c h = h
 
-system : IsSystem rendezvous
+pub system : IsSystem rendezvous
 system = record {
   sender = λ c h. let e : c ≡ 0 = omega arith in subst (λ z. sender_of rendezvous z < 2) (sym e) (omega arith);
   receiver = λ c h. let e : c ≡ 0 = omega arith in subst (λ z. receiver_of rendezvous z < 2) (sym e) (omega arith);

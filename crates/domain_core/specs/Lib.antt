@@ -3,4 +3,6 @@ pub mod LegalRuns
 pub mod OwnRuns
 pub mod StampBound
 pub mod Scheduled
+pub mod Rounds
+pub mod Interleavings
 pub mod Rows

@@ -6,8 +6,12 @@ use Rattle.kernel_terms.specs.declared.tables.Sort.TheVariants as sort
 use Rattle.kernel_terms.specs.declared.tables.Combine.TheVariants as combine
 use Rattle.kernel_terms.specs.Expressions.{Literal, ChannelValue}
 use Rattle.kernel_terms.specs.Statements.{Emit, Seq, Send, Receive}
+use Rattle.cell_core.specs.declared.moves.Side.TheVariants.{Sender, Receiver}
+use Rattle.cell_core.specs.declared.moves.CellMove.TheVariants.{Offer, Recall}
 use Rattle.tick_log.specs.Runs.{Ended, RunState}
 use Rattle.domain_core.specs.Systems.{Setup}
+use Rattle.domain_core.specs.Rounds.{Rounds, RoundsFit, NoneCut}
+use Rattle.domain_core.specs.Interleavings.{Action, MadeTick, MadeMove, IsInterleaving}
 
 -- the outputs D of domain 0 and B of domain 1, and the channel C from domain 0 to domain 1
 abbrev pub two_domains : Tables
@@ -40,3 +44,19 @@ rendezvous_run stamp = record {
 -- each domain twice, by turns
 abbrev pub two_rounds : List ℕ
 two_rounds = 0 ∷ 1 ∷ 0 ∷ 1 ∷ []
+
+-- Both domains make their first tick and their offer. The sender's offer finds nothing, the receiver's joins
+-- it, and the sender finds the join at its recall. Then both make their second tick.
+abbrev pub one_interleaving : List Action
+one_interleaving =
+    MadeTick 0 ∷ MadeMove 0 0 (record { what = Offer Sender (pos 5) 1; reply = None }) ∷
+    MadeTick 1 ∷ MadeMove 1 0 (record { what = Offer Receiver (pos 0) 1; reply = Some (record { value = pos 5; mine = 1; theirs = 1 }) }) ∷
+    MadeMove 0 0 (record { what = Recall Sender; reply = Some (record { value = pos 5; mine = 1; theirs = 1 }) }) ∷
+    MadeTick 0 ∷ MadeTick 1 ∷ []
+
+-- The ticks and moves are of rounds that fit the run. None is cut, and nothing stands at the end.
+pub record IsByRounds (setup : Setup) (r : RunState) (actions : List Action) : Type 0 where
+  pub rounds : ℕ → Rounds
+  pub interleaved : IsInterleaving setup r rounds actions (λ c. [])
+  pub fit : RoundsFit setup r rounds
+  pub none_cut : NoneCut setup rounds

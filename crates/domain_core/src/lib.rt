@@ -5,8 +5,9 @@ mod laws;
 mod rows;
 
 pub use laws::{
-    legal_runs_have_own_runs, next_stamps_are_bounded, own_runs_are_legal,
+    interleavings_close, interleavings_fit, legal_runs_have_own_runs, moves_and_joins_grow,
+    next_stamps_are_bounded, own_runs_are_legal, rounds_are_legal, rounds_grow,
     scheduled_runs_are_whole, stamps_are_places, stamps_have_causes, stamps_have_no_gaps,
     steps_are_legal,
 };
-pub use rows::{one_rendezvous, stamps_count_joins};
+pub use rows::{one_rendezvous, rendezvous_by_rounds, stamps_count_joins};

@@ -1,0 +1,5 @@
+use Rattle.domain_core.proofs.FittingRounds.{rendezvous-by_rounds}
+use Rattle.domain_core.proofs.rows.rendezvous_by_rounds.Goals as goal
+
+pub returns : goal.returns
+returns c = rendezvous-by_rounds
