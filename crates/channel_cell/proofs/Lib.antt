@@ -1,0 +1,14 @@
+pub mod Words
+pub mod Fits
+pub mod Nexts
+pub mod Seats
+pub mod Shown
+pub mod Bounds
+pub mod Owns
+pub mod Turns
+pub mod Seating
+pub mod Answering
+pub mod Gluing
+pub mod Evens
+pub mod Apart
+pub mod Settling
