@@ -1,0 +1,212 @@
+// The codes of a domain's starting and resuming ticks.
+
+ghost use Rattle.std.specs.Prelude.{◌≡◌, ◌+◌, ◌^◌, ◌<◌, ◌≤◌, ℕ, IfOk, [], pos, length, get_or, true};
+ghost use Rattle.kernel_terms.specs.declared.tables.Tables.{Tables};
+ghost use Rattle.kernel_terms.specs.Statements.{Stmt, statement};
+ghost use Rattle.kernel_rules.specs.Registers.{FitRegisters, residual};
+ghost use Rattle.domain_core.specs.BuiltForms.{Plain, whole, plain, is_built};
+ghost use Rattle.domain_core.specs.BuiltRegisters.{registers, HoldsLiteral};
+ghost use Rattle.domain_core.specs.BuiltLimits.{CanBuild};
+ghost use Rattle.domain_core.specs.BuiltCodes.{IsStarting, IsResuming, CanStep, AreBelow, StepsOn, written, head};
+ghost use Rattle.domain_core.specs.Codes.{AreCodes, AreSome, TellsTick};
+
+use crate::builder::{Parts, resume, start};
+use crate::built_forms::count;
+use crate::circuit::{Built, finish, step};
+use crate::sites::{Found, find};
+use java_values::NoMemory;
+use kernel_terms::Term;
+use std::alloc::Global;
+use tick_code::{Equation, Formula};
+
+// The wires that are off and on.
+fn begin(alloc: Global) -> Result<Parts, NoMemory>
+    ensures equations { IfOk result (λ parts. parts.equations.items ≡ head) }
+    ensures sets { IfOk result (λ parts. parts.sets.items ≡ []) }
+    ensures emits { IfOk result (λ parts. parts.emits.items ≡ []) }
+{
+    let mut equations = Vec::new(alloc);
+    equations.push(Equation {
+        wire: 0,
+        formula: Formula::Const(0),
+    })?;
+    equations.push(Equation {
+        wire: 1,
+        formula: Formula::Const(1),
+    })?;
+    Ok(Parts {
+        equations,
+        sets: Vec::new(alloc),
+        emits: Vec::new(alloc),
+    })
+}
+
+#[tactic(auto, using(crate::proofs::CircuitStarts::few))]
+fn starting(alloc: Global, term: &Term, signals: u32, count: u32) -> Result<Built, NoMemory>
+    requires count { count ≡ registers (plain term.now) }
+    requires can { CanBuild signals (plain term.now) }
+    ensures { IfOk result (λ built. IsStarting built (plain term.now) signals) }
+{
+    let mut parts = begin(alloc)?;
+    let end = start(&mut parts, term, 1, 0)?;
+    finish(alloc, parts, end, signals, count)
+}
+
+#[tactic(auto, using(crate::proofs::CircuitStarts::few))]
+fn resuming(alloc: Global, term: &Term, signals: u32, count: u32) -> Result<Built, NoMemory>
+    requires count { count ≡ registers (plain term.now) }
+    requires can { CanBuild signals (plain term.now) }
+    ensures { IfOk result (λ built. IsResuming built (plain term.now) signals) }
+{
+    let mut parts = begin(alloc)?;
+    let end = resume(&mut parts, term, 0)?;
+    finish(alloc, parts, end, signals, count)
+}
+
+// Writes the literals of the sends.
+#[tactic(auto, using(crate::proofs::CodeLiterals::writing_steps))]
+fn write(literals: &[(u32, i64)], registers: &mut [i64])
+    requires { AreBelow (length registers.old) literals.now }
+    ensures { registers.new ≡ written literals.now registers.old }
+{
+    for literal in literals {
+        registers[literal.0 as usize] = literal.1;
+    }
+}
+
+// One tick. It takes no memory.
+fn tick(
+    built: &Built,
+    literals: &[(u32, i64)],
+    registers: &mut Vec<i64>,
+    wires: &mut Vec<i64>,
+    present: &mut Vec<bool>,
+) -> bool
+    requires can { CanStep built.now (length registers.old.items) (length present.old.items) }
+    requires wires { length built.now.code ≤ length wires.old.items }
+    requires literals { AreBelow (length registers.old.items) literals.now }
+    ensures steps { StepsOn built.now literals.now registers.old.items present.new.items registers.new.items result }
+    ensures registers { length registers.new.items ≡ length registers.old.items }
+    ensures present { length present.new.items ≡ length present.old.items }
+    ensures wires { length wires.new.items ≡ length wires.old.items }
+{
+    let used = built.wire_count();
+    let ended = step(built, registers, &mut wires[..used], present);
+    write(literals, registers);
+    ended
+}
+
+/// A send or a receive, with the number of its register `on`. The next register is its `met`, and
+/// that after it the value of a send.
+#[derive(Clone, Copy, Debug, PartialEq, Eq)]
+pub struct Place {
+    pub channel: u32,
+    pub is_send: bool,
+    pub on: u32,
+}
+
+/// The codes of a starting and of a resuming tick of a built statement, and its sends and receives.
+#[derive(Drop)]
+pub struct Codes {
+    starting: Built,
+    resuming: Built,
+    places: Vec<Place>,
+    literals: Vec<(u32, i64)>,
+    registers: usize,
+    signals: usize,
+    wires: usize,
+}
+
+impl Codes {
+    /// The codes of a statement of the built forms over so many signals.
+    #[tactic(auto, using(crate::proofs::BuiltTrees::built_stands))]
+    pub fn new(alloc: Global, term: &Term, signals: u32) -> Result<Codes, NoMemory>
+        requires built { is_built term.now ≡ true }
+        requires can { CanBuild signals (plain term.now) }
+        ensures stands { statement term.now ≡ whole (plain term.now) }
+        ensures codes { IfOk result (λ c. AreCodes c (plain term.now) signals) }
+    {
+        let count = count(term) as u32;
+        let starting = starting(alloc, term, signals, count)?;
+        let resuming = resuming(alloc, term, signals, count)?;
+        let mut found = Found {
+            places: Vec::new(alloc),
+            literals: Vec::new(alloc),
+        };
+        find(&mut found, term, 0)?;
+        let Found { places, literals } = found;
+        let wires = starting.wire_count().max(resuming.wire_count());
+        Ok(Codes {
+            starting,
+            resuming,
+            places,
+            literals,
+            registers: count as usize,
+            signals: signals as usize,
+            wires,
+        })
+    }
+
+    /// The sends and receives of the statement, from the left.
+    pub fn places(&self) -> &[Place]
+        ensures { result.now ≡ self.now.places.items }
+    {
+        self.places.as_slice()
+    }
+
+    /// How many registers the statement has.
+    pub fn register_count(&self) -> usize
+        ensures { result ≡ self.now.registers }
+    {
+        self.registers
+    }
+
+    /// How many wires a tick needs.
+    pub fn wire_count(&self) -> usize
+        ensures { result ≡ self.now.wires }
+    {
+        self.wires
+    }
+
+    /// The starting tick: writes which signals are present and the registers after it, and tells
+    /// whether the domain ends. It takes no memory.
+    pub fn start(
+        &self,
+        registers: &mut Vec<i64>,
+        wires: &mut Vec<i64>,
+        present: &mut Vec<bool>,
+    ) -> bool
+        requires are { AreSome self.now }
+        requires registers { length registers.old.items ≡ self.now.registers }
+        requires wires { length wires.old.items ≡ self.now.wires }
+        requires present { length present.old.items ≡ self.now.signals }
+        ensures tells { (tables : Tables) (p : Plain) → AreCodes self.now p (length present.old.items) → TellsTick tables (whole p) (length present.old.items) (whole p) present.new.items (λ k. get_or registers.new.items k (pos 0)) result }
+        ensures literals { (p : Plain) → AreCodes self.now p (length present.old.items) → HoldsLiteral p 0 (λ k. get_or registers.new.items k (pos 0)) }
+        ensures registers { length registers.new.items ≡ length registers.old.items }
+        ensures wires { length wires.new.items ≡ length wires.old.items }
+        ensures present { length present.new.items ≡ length present.old.items }
+    {
+        tick(&self.starting, &self.literals, registers, wires, present)
+    }
+
+    /// A resuming tick, from registers that fit and hold the literals of the sends. It takes no
+    /// memory.
+    pub fn resume(
+        &self,
+        registers: &mut Vec<i64>,
+        wires: &mut Vec<i64>,
+        present: &mut Vec<bool>,
+    ) -> bool
+        requires are { AreSome self.now }
+        requires registers { length registers.old.items ≡ self.now.registers }
+        requires wires { length wires.old.items ≡ self.now.wires }
+        requires present { length present.old.items ≡ self.now.signals }
+        ensures tells { (tables : Tables) (p : Plain) → AreCodes self.now p (length present.old.items) → FitRegisters tables (whole p) 0 (λ k. get_or registers.old.items k (pos 0)) → HoldsLiteral p 0 (λ k. get_or registers.old.items k (pos 0)) → TellsTick tables (whole p) (length present.old.items) (residual tables (whole p) 0 (λ k. get_or registers.old.items k (pos 0))) present.new.items (λ k. get_or registers.new.items k (pos 0)) result }
+        ensures literals { (tables : Tables) (p : Plain) → AreCodes self.now p (length present.old.items) → FitRegisters tables (whole p) 0 (λ k. get_or registers.old.items k (pos 0)) → HoldsLiteral p 0 (λ k. get_or registers.old.items k (pos 0)) → HoldsLiteral p 0 (λ k. get_or registers.new.items k (pos 0)) }
+        ensures registers { length registers.new.items ≡ length registers.old.items }
+        ensures wires { length wires.new.items ≡ length wires.old.items }
+        ensures present { length present.new.items ≡ length present.old.items }
+    {
+        tick(&self.resuming, &self.literals, registers, wires, present)
+    }
+}
