@@ -43,10 +43,6 @@ pub some_is : (r : Option Joined) (j : Joined) → is_some r ≡ true → Is r j
 some_is None j e i = absurd (true≢false (sym e))
 some_is (Some k) j e i = ap Some i
 
-pub none_is : (r : Option Joined) → is_some r ≡ false → r ≡ None
-none_is None e = refl
-none_is (Some j) e = absurd (true≢false e)
-
 pub done_some : {side : Side} {k : Knows} {m : CellMove} {v : ℤ} {s : ℕ} {me me' : Sat} (h : Moved side k m v s true me) (answer : Joined) → Is (tally_in me).last answer → me' ≡ me → Done side k m v s (Some answer) me'
 done_some {side} {k} {m} {v} {s} {me} {me'} h answer i same =
     let r : h.reply ≡ Some answer = some_is h.reply answer h.answered (subst (λ x. Is x answer) (last_now h) i) in record {

@@ -1,5 +1,5 @@
 -- Which lists the views have.
-use Rattle.std.proofs.Common.{◌≡◌, ℕ, zero, suc, List, [], ◌∷◌, ◌++◌, set, refl, sym, ap, ◌∙◌, subst, inl, inr}
+use Rattle.std.proofs.Common.{◌≡◌, ℕ, zero, suc, List, [], ◌∷◌, set, refl, sym, ap, subst, inl, inr}
 use mathlib.Core.Option.{some, some-injective, some-ne-none}
 use lib.ListN.{get_elem?}
 use Rattle.java_values.specs.declared.kind.Kind.{Kind}
@@ -8,7 +8,7 @@ use Rattle.cell_core.specs.declared.moves.Side.TheVariants.{Sender, Receiver}
 use Rattle.channel_cell.specs.declared.rule.Knows.{Knows}
 use Rattle.channel_cell.specs.declared.rule.View.{View}
 use Rattle.channel_cell.specs.declared.rule.View.TheVariants.{First, Own, Both, Spent}
-use Rattle.channel_cell.specs.Rule.{Seated, nothing, knows_in}
+use Rattle.channel_cell.specs.Rule.{Seated, knows_in}
 use Rattle.channel_cell.specs.Calls.{second_in}
 
 first_alone : (kind : Kind) (side : Side) (es : Knows) (id : ℕ) → get_elem? (First kind ∷ []) id ≡ some (Own side es) → ⊥
@@ -48,53 +48,6 @@ receiver_sits views a b es id (inr (inl h)) e =
     let r = receiver_beside a b es id (subst (λ (l : List View). get_elem? l id ≡ some (Own Receiver es)) h e) in
     (r.0, λ new. subst (λ (l : List View). Seated (set l id (Own Receiver new)) a new) (sym h) (r.1 new))
 receiver_sits views a b es id (inr (inr h)) e = absurd (receiver_joined a b es id (subst (λ (l : List View). get_elem? l id ≡ some (Own Receiver es)) h e))
-
--- the split: only the first view is so, and it is alone
-first_beside : (kind : Kind) (a b : Knows) (id : ℕ) → get_elem? (Own Sender a ∷ Own Receiver b ∷ []) id ≡ some (First kind) → ⊥
-first_beside kind a b zero e = absurd (cc)
-first_beside kind a b (suc zero) e = absurd (cc)
-first_beside kind a b (suc (suc id)) e = absurd (some-ne-none _ (sym e))
-
-first_joined : (kind : Kind) (a b : Knows) (id : ℕ) → get_elem? (Both a b ∷ Spent ∷ []) id ≡ some (First kind) → ⊥
-first_joined kind a b zero e = absurd (cc)
-first_joined kind a b (suc zero) e = absurd (cc)
-first_joined kind a b (suc (suc id)) e = absurd (some-ne-none _ (sym e))
-
-first_same : (kind other : Kind) (id : ℕ) → get_elem? (First other ∷ []) id ≡ some (First kind) → other ≡ kind
-first_same kind other zero e = ap (λ v. (knows_in v).kind) (some-injective _ _ e)
-first_same kind other (suc id) e = absurd (some-ne-none _ (sym e))
-
-first_cut : (kind : Kind) (id : ℕ) → get_elem? (First kind ∷ []) id ≡ some (First kind) → Seated (set (First kind ∷ []) id (Own Sender (nothing kind)) ++ Own Receiver (nothing kind) ∷ []) (nothing kind) (nothing kind)
-first_cut kind zero e = inr (inl refl)
-first_cut kind (suc id) e = absurd (some-ne-none _ (sym e))
-
-pub seats_cut : (views : List View) (a b : Knows) (kind : Kind) (id : ℕ) → Seated views a b → get_elem? views id ≡ some (First kind) → Seated (set views id (Own Sender (nothing kind)) ++ Own Receiver (nothing kind) ∷ []) a b
-seats_cut views a b kind id (inl h) e =
-    let same : a.kind ≡ kind = first_same kind a.kind id (subst (λ (l : List View). get_elem? l id ≡ some (First kind)) h.0 e) in
-    let alone : views ≡ First kind ∷ [] = h.0 ∙ ap (λ k. First k ∷ []) same in
-    let x : a ≡ nothing kind = h.1 ∙ ap nothing same in
-    let y : b ≡ nothing kind = h.2 ∙ ap nothing same in
-    let r = first_cut kind id (subst (λ (l : List View). get_elem? l id ≡ some (First kind)) alone e) in
-    subst (λ (t : List View × (Knows × Knows)). Seated (set t.0 id (Own Sender (nothing kind)) ++ Own Receiver (nothing kind) ∷ []) t.1.0 t.1.1) (λ i. (sym alone i, (sym x i, sym y i))) r
-seats_cut views a b kind id (inr (inl h)) e = absurd (first_beside kind a b id (subst (λ (l : List View). get_elem? l id ≡ some (First kind)) h e))
-seats_cut views a b kind id (inr (inr h)) e = absurd (first_joined kind a b id (subst (λ (l : List View). get_elem? l id ≡ some (First kind)) h e))
-
--- the join: the sender's seat takes in the receiver's
-glue_beside : (a b es fs : Knows) (id at : ℕ) → get_elem? (Own Sender a ∷ Own Receiver b ∷ []) id ≡ some (Own Sender es) → get_elem? (set (Own Sender a ∷ Own Receiver b ∷ []) id (Both es fs)) at ≡ some (Own Receiver fs)
-    → set (set (Own Sender a ∷ Own Receiver b ∷ []) id (Both es fs)) at Spent ≡ Both a b ∷ Spent ∷ []
-glue_beside a b es fs zero zero e f = absurd (cc)
-glue_beside a b es fs zero (suc zero) e f =
-    let x : a ≡ es = ap knows_in (some-injective _ _ e) in let y : b ≡ fs = ap knows_in (some-injective _ _ f) in λ i. Both (sym x i) (sym y i) ∷ Spent ∷ []
-glue_beside a b es fs zero (suc (suc at)) e f = absurd (some-ne-none _ (sym f))
-glue_beside a b es fs (suc zero) at e f = absurd (cc)
-glue_beside a b es fs (suc (suc id)) at e f = absurd (some-ne-none _ (sym e))
-
-pub seats_glued : (views : List View) (a b es fs : Knows) (id at : ℕ) → Seated views a b → get_elem? views id ≡ some (Own Sender es) → get_elem? (set views id (Both es fs)) at ≡ some (Own Receiver fs)
-    → Seated (set (set views id (Both es fs)) at Spent) a b
-seats_glued views a b es fs id at (inl h) e f = absurd (first_alone a.kind Sender es id (subst (λ (l : List View). get_elem? l id ≡ some (Own Sender es)) h.0 e))
-seats_glued views a b es fs id at (inr (inl h)) e f =
-    inr (inr (ap (λ (l : List View). set (set l id (Both es fs)) at Spent) h ∙ glue_beside a b es fs id at (subst (λ (l : List View). get_elem? l id ≡ some (Own Sender es)) h e) (subst (λ (l : List View). get_elem? (set l id (Both es fs)) at ≡ some (Own Receiver fs)) h f)))
-seats_glued views a b es fs id at (inr (inr h)) e f = absurd (sender_joined a b es id (subst (λ (l : List View). get_elem? l id ≡ some (Own Sender es)) h e))
 
 -- the seat with both lists
 both_beside : (a b es fs : Knows) (id : ℕ) → get_elem? (Own Sender a ∷ Own Receiver b ∷ []) id ≡ some (Both es fs) → ⊥

@@ -44,7 +44,8 @@ impl Model for End {
 
     ghost view = { λ e. end_state e.seat.table_id e.side (knows_in e.seat.me.0) e.room };
 
-    ghost invariant = { λ e. KeepsEnd (arc_value e.words).shared.table_id e.seat.table_id e.side e.seat.me e.joins e.counter e.standing e.value e.stamp e.room };
+    ghost invariant = { λ e. KeepsEnd (arc_value e.words).shared.table_id e.seat.table_id e.side
+        e.seat.me e.joins e.counter e.standing e.value e.stamp e.room };
 }
 
 impl End {
