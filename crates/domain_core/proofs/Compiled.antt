@@ -1,6 +1,6 @@
 -- A compiled domain keeps what a step needs.
-use Rattle.std.proofs.Common.{◌≡◌, ℕ, suc, zero, ◌+◌, ◌<◌, ◌≤◌, ℤ, pos, Bool, true, false, cond, List, [], ◌∷◌, length, get_or, map, Vec, T, refl, sym, ap, ◌∙◌, subst, arith}
-use Rattle.std.specs.Prelude.{◌&&◌, replicate, max, int_le, vec_capacity}
+use Rattle.std.proofs.Common.{◌≡◌, ℕ, suc, zero, ◌+◌, ◌<◌, ℤ, pos, Bool, true, false, cond, List, [], length, get_or, Vec, T, refl, sym, ap, ◌∙◌, subst, arith}
+use Rattle.std.specs.Prelude.{◌&&◌, replicate, int_le}
 use Rattle.std.specs.Global.{Global}
 use Rattle.std.specs.Int.Signed.{le_z_yes, ◌≤ℤ◌}
 use Rattle.std.proofs.lemmas.Bool.{true≢false}
@@ -15,8 +15,7 @@ use Rattle.kernel_terms.specs.Systems.{tables_of, domains_of}
 use Rattle.kernel_terms.specs.TableEntries.{channel_at, is_interface_of, numbers_where}
 use Rattle.kernel_terms.specs.Statements.{Stmt, statement}
 use Rattle.kernel_terms.specs.Statements as rules
-use Rattle.kernel_terms.specs.WellFormed.{Scope, fits_statement, fit_statements, same_kind, is_well_formed, has_names, is_within_limits, has_entries, has_parts}
-use Rattle.std.specs.List.{list_all}
+use Rattle.kernel_terms.specs.WellFormed.{Scope, fits_statement, same_kind}
 use Rattle.tick_log.specs.Runs as runs
 use Rattle.tick_log.specs.Runs.{LogState}
 use Rattle.domain_core.specs.declared.ends_of.EndJoin.{EndJoin}
@@ -39,14 +38,7 @@ use Rattle.domain_core.specs.DomainKeeps.{HasScratch, Keeps}
 use Rattle.std.proofs.Math.Path.{fun_ext}
 use Rattle.domain_core.proofs.PhaseStates.{places_fit}
 use Rattle.domain_core.proofs.DomainSteps.{view_of}
-
-left : (a b : Bool) → a && b ≡ true → a ≡ true
-left true b h = refl
-left false b h = absurd (true≢false (sym h))
-
-right : (a b : Bool) → a && b ≡ true → b ≡ true
-right true b h = h
-right false b h = absurd (true≢false (sym h))
+use Rattle.domain_core.proofs.WellFormedSystems.{left, right, source_fits}
 
 at_most : (m n : ℤ) → int_le m n ≡ true → m ≤ℤ n
 at_most m n h = le_z_yes (subst T (sym h) tt)
@@ -75,39 +67,22 @@ sends_fit t scope (Send c n) h =
     (record { low = at_most (lowest kind.Int) n (left (int_le (lowest kind.Int) n) (int_le n (highest kind.Int)) range); high = at_most n (highest kind.Int) (right (int_le (lowest kind.Int) n) (int_le n (highest kind.Int)) range) })
 sends_fit t scope (Receive c) h = tt
 
-fit_at : (t : Tables) (d n : ℕ) (ps : List Stmt) → n < length ps → fit_statements t d ps ≡ true → fits_statement t (record { domain = d + n; traps = 0; locals = [] }) (get_or ps n rules.Nothing) ≡ true
-fit_at t d n [] less h = absurd (omega (arith, less))
-fit_at t d zero (p ∷ ps) less h =
-    subst (λ k. fits_statement t (record { domain = k; traps = 0; locals = [] }) p ≡ true) (omega arith)
-    (left (fits_statement t (record { domain = d; traps = 0; locals = [] }) p) (fit_statements t (suc d) ps) h)
-fit_at t d (suc n) (p ∷ ps) less h =
-    subst (λ k. fits_statement t (record { domain = k; traps = 0; locals = [] }) (get_or ps n rules.Nothing) ≡ true) (omega arith)
-    (fit_at t (suc d) n ps (omega (arith, less)) (right (fits_statement t (record { domain = d; traps = 0; locals = [] }) p) (fit_statements t (suc d) ps) h))
-
 pub system_sends_fit : (system : System) (d : ℕ) (p : Plain) → d < length (domains_of system) → source_of system d ≡ whole p → SendsFit (tables_of system) p
 system_sends_fit system d p less is =
     let t = tables_of system in
-    let ds = domains_of system in
-    let ps = map statement ds in
-    let well : is_well_formed t ds ≡ true = system.well_formed in
-    let a = right (has_names t) _ well in
-    let b = right (is_within_limits t (length ds)) _ a in
-    let c = right (has_entries t (length ds)) _ b in
-    let e = right (list_all has_parts ds) _ c in
-    let f = left (fit_statements t 0 ps) _ e in
-    let at = fit_at t 0 d ps (omega (arith, less, length-map ds statement)) f in
-    sends_fit t (record { domain = 0 + d; traps = 0; locals = [] }) p (subst (λ s. fits_statement t (record { domain = 0 + d; traps = 0; locals = [] }) s ≡ true) is at)
+    let scope : Scope = record { domain = 0 + d; traps = 0; locals = [] } in
+    sends_fit t scope p (subst (λ s. fits_statement t scope s ≡ true) is (source_fits system d less))
 
 no_joins : (t n : ℕ) → newest_of t (replicate n []) ≡ 0
 no_joins t zero = refl
 no_joins t (suc n) = let i = no_joins t n in omega (arith, i)
 
-pub empty_at : (n k : ℕ) → joins_at (replicate n []) k ≡ []
+empty_at : (n k : ℕ) → joins_at (replicate n []) k ≡ []
 empty_at zero k = refl
 empty_at (suc n) zero = refl
 empty_at (suc n) (suc k) = empty_at n k
 
-pub false_at : (n k : ℕ) → get_or (replicate n false) k false ≡ false
+false_at : (n k : ℕ) → get_or (replicate n false) k false ≡ false
 false_at zero k = refl
 false_at (suc n) zero = refl
 false_at (suc n) (suc k) = false_at n k
@@ -180,6 +155,7 @@ module _ (system : System) (d : ℕ) (program : Program) (state : State) (scratc
     outcome = outcome;
     stamp = stamp;
     standing = λ n. ap (λ l. get_or l n false) standing ∙ false_at (length program.ends.items) n;
+    lists = ap length joins ∙ length-replicate (length program.ends.items) [] ∙ ap length ends;
     joins = λ n. ap (λ l. joins_at l n) joins ∙ empty_at (length program.ends.items) n;
     state =
         ap (λ (l : LogState). state_with (tables_of system) (source_of system d) (ends_of (tables_of system) d) (register_at state.registers.items) (joins_in state.joins.items) (length l.entries) (has_ended_as state.outcome)) logged
@@ -187,67 +163,4 @@ module _ (system : System) (d : ℕ) (program : Program) (state : State) (scratc
         ∙ ap (λ l. state_with (tables_of system) (source_of system d) (ends_of (tables_of system) d) (register_at state.registers.items) l 0 false) joins
         ∙ ap (λ f. record { statement = source_of system d; variables = λ x. pos 0; values = λ s. pos 0; last = f; ticks = 0; ended = false })
         (fun_ext (λ c. nothing_received (ends_of (tables_of system) d) (length program.ends.items) (length (ends_of (tables_of system) d)) c));
-  }
-
--- before the first tick no end has joins
-pub fresh_joins : (xs : List (List EndJoin)) (n : ℕ) → length xs ≡ n → ((k : ℕ) → k < n → length (joins_at xs k) ≡ 0) → xs ≡ replicate n []
-fresh_joins [] zero len none = refl
-fresh_joins [] (suc n) len none = absurd (omega (arith, len))
-fresh_joins (x ∷ xs) zero len none = absurd (omega (arith, len))
-fresh_joins (x ∷ xs) (suc n) len none =
-    ap (λ y. y ∷ xs) (empty x (none 0 (omega arith))) ∙ ap (λ l. [] ∷ l) (fresh_joins xs n (omega (arith, len)) (λ k less. none (suc k) (omega (arith, less))))
-  where
-    empty : (y : List EndJoin) → length y ≡ 0 → y ≡ []
-    empty [] e = refl
-    empty (z ∷ zs) e = absurd (omega (arith, e))
-
-module _ (system : System) (d : ℕ) (program : Program) (s0 s1 : State) (scratch : Scratch) (log0 log1 : LogState) (ticks : ℕ)
-    (keeps : Keeps system d program s0 scratch log0) (fresh : log0.entries ≡ [])
-    (registers_same : s1.registers.items ≡ s0.registers.items) (standing_same : s1.standing.items ≡ s0.standing.items)
-    (stamp_same : s1.stamp ≡ s0.stamp) (cause_same : s1.cause ≡ s0.cause) (outcome_same : s1.outcome ≡ s0.outcome)
-    (joins : joins_in s1.joins.items ≡ replicate (length program.ends.items) [])
-    (memory : (k : ℕ) (w : Vec EndJoin Global) → k < length program.ends.items → ticks ≤ vec_capacity (get_or s1.joins.items k w))
-    (logged : log1 ≡ record { entries = []; mark = runs.Going; signals = log0.signals; room = ticks }) where
-  none0 : length log0.entries ≡ 0
-  none0 = ap length fresh
-
-  none1 : length log1.entries ≡ 0
-  none1 = ap (λ (l : LogState). length l.entries) logged
-
-  old_joins : joins_in s0.joins.items ≡ replicate (length program.ends.items) []
-  old_joins =
-      fresh_joins (joins_in s0.joins.items) (length program.ends.items) (length-map s0.joins.items (λ (v : Vec EndJoin Global). v.items) ∙ keeps.parts.lists)
-      (λ k less. omega (arith, keeps.parts.counts k less, none0))
-
-  pub same_joins : joins_in s1.joins.items ≡ joins_in s0.joins.items
-  same_joins = joins ∙ sym old_joins
-
-  pub reserved_keeps : Keeps system d program s1 scratch log1
-  reserved_keeps = record {
-    source = keeps.source;
-    is_program = keeps.is_program;
-    memory = keeps.memory;
-    is_state = record {
-      registers = ap length registers_same ∙ keeps.is_state.registers;
-      fits = λ is. subst (λ n. FitsAfter (tables_of system) keeps.source n (register_at s1.registers.items)) (sym none1) tt;
-      stands = λ k less is. absurd (omega (arith, none0, keeps.is_state.stands k less (sym (ap (λ l. get_or l k false) standing_same) ∙ is)));
-      goes = λ k less is. ap has_ended_as outcome_same ∙ keeps.is_state.goes k less (sym (ap (λ l. get_or l k false) standing_same) ∙ is);
-      last = omega (arith, stamp_same, keeps.is_state.last);
-      cause =
-          cause_same ∙ keeps.is_state.cause ∙ ap (λ x. max x (newest_of (length log0.entries) (joins_in s0.joins.items))) (sym stamp_same)
-          ∙ ap (λ n. max s1.stamp (newest_of n (joins_in s0.joins.items))) (none0 ∙ sym none1) ∙ ap (λ l. max s1.stamp (newest_of (length log1.entries) l)) (sym same_joins);
-      later = λ t low. ap (newest_of t) joins ∙ no_joins t (length program.ends.items);
-    };
-    parts = record {
-      standing = ap length standing_same ∙ keeps.parts.standing;
-      lists = sym (length-map s1.joins.items (λ (v : Vec EndJoin Global). v.items)) ∙ ap length joins ∙ length-replicate (length program.ends.items) [];
-      places = subst (λ l. PlacesFit program.codes.places.items (length l)) (sym registers_same) keeps.parts.places;
-      counts = λ k less.
-          let here = ap (λ l. length (joins_at l k)) joins ∙ ap length (empty_at (length program.ends.items) k) in
-          let free = ap (λ l. pending (get_or l k false)) standing_same in
-          omega (arith, here, free, keeps.parts.counts k less, none0);
-      memory = λ k v less. let r = ap (λ (l : LogState). l.room) logged in omega (arith, none1, r, memory k v less);
-      limit = omega (arith, cause_same, keeps.parts.limit);
-    };
-    log_signals = ap (λ (l : LogState). l.signals) logged ∙ keeps.log_signals;
   }

@@ -13,6 +13,8 @@ use Rattle.kernel_terms.specs.Statements as rules
 use Rattle.kernel_rules.specs.Registers.{residual}
 use Rattle.kernel_rules.specs.LegalTick.{DomainState, IsLegalTick}
 use Rattle.tick_log.specs.Runs.{LogState, mark_of, statuses_of}
+use Rattle.tick_log.specs.RunText.{interface_signals}
+use Rattle.tick_log.specs.Fits.{AreStatuses}
 use Rattle.cell_core.specs.declared.moves.Joined.{Joined}
 use Rattle.cell_core.specs.declared.moves.CellMove.{CellMove}
 use Rattle.cell_core.specs.Ends.{EndView, Through, ValueFits}
@@ -37,7 +39,7 @@ use Rattle.domain_core.specs.DomainKeeps.{HasScratch, Keeps}
 use Rattle.domain_core.proofs.StateJoins.{AreApart, ends_rise}
 use Rattle.domain_core.proofs.StateAnswers.{length_joins}
 use Rattle.domain_core.proofs.StampAnswers.{one_if, all_raised, all_other, all_counted}
-use Rattle.domain_core.proofs.TickStates.{after_tick, tick_is_legal}
+use Rattle.domain_core.proofs.TickStates.{after_tick, tick_is_legal, statuses_fit}
 use Rattle.domain_core.proofs.PhaseStates.{answers_state, replies_state, answers_fit, ask_fits, still_waits, asked_after, recalled_fits, offered_fits, offered_stands}
 
 -- a domain as contracts see it
@@ -325,6 +327,11 @@ module _ {S : Type 0} (moved : S → ℕ → CellMove → Option Joined → S �
       statuses_are : statuses_of shown (replicate (length (interface_of tables d)) (pos 0)) ≡ statuses_of shown zeros
       statuses_are = ap (λ n. statuses_of shown (replicate n (pos 0))) (ap length (sym keeps.is_program.signals)) ∙ ap (statuses_of shown) (sym all_zero)
 
+      shows : AreStatuses (interface_signals tables d) (statuses_of shown zeros)
+      shows =
+          subst (AreStatuses (interface_signals tables d)) statuses_are
+          (statuses_fit tables d shown keeps.is_program.pure (ap length picks ∙ length-map program.signals.items (λ s. slice_index_or present s false) ∙ ap length keeps.is_program.signals))
+
       legal : IsLegalTick tables (λ s n. None) d (with_answers ends answers (length ends) (state_of v0)) (statuses_of shown zeros) after
       legal =
           subst (λ x. IsLegalTick tables (λ s n. None) d x (statuses_of shown zeros) after) state_here
@@ -448,6 +455,7 @@ module _ {S : Type 0} (moved : S → ℕ → CellMove → Option Joined → S �
             statuses = statuses_of shown zeros;
             after = after;
             legal = legal;
+            shows = shows;
             log = logged;
             last_stamp = applies2.stamp ∙ stamp2;
             results = (applies2.outcome ∙ outcome2, refl);

@@ -9,6 +9,7 @@ pub mod StepEffects
 pub mod Converse
 pub mod StepStamps
 pub mod Turns
+pub mod JoinsOfTicks
 pub mod Rendezvous
 pub mod CellMoves
 pub mod CellJoins
@@ -49,4 +50,6 @@ pub mod PlaceLists
 pub mod BuiltRules
 pub mod CodeLiterals
 pub mod CompileLists
+pub mod WellFormedSystems
 pub mod Compiled
+pub mod PairTerms

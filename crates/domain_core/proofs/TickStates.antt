@@ -2,7 +2,9 @@
 use Rattle.std.proofs.Common.{◌≡◌, ℕ, zero, suc, ◌<◌, ◌≤◌, ℤ, pos, Bool, true, false, cond, List, [], ◌∷◌, length, get_or, map, Option, Some, None, refl, sym, ap, ◌∙◌, subst, inl, inr, arith}
 use Rattle.std.specs.Prelude.{◌==◌, ◌&&◌, replicate, slice_index_or, unwrap_or}
 use Rattle.std.specs.Int.{int_wrap}
-use Rattle.std.specs.List.{All}
+use Rattle.std.specs.List.{All, filter}
+use Rattle.std.proofs.lemmas.List.{get_or_default}
+use Rattle.std.proofs.lemmas.List.Elements.{All-filter, filter_passes}
 use Rattle.std.proofs.Math.Path.{fun_ext}
 use Rattle.std.proofs.lemmas.Bool.{cases_lt, cond-false, true≢false}
 use Rattle.java_values.specs.declared.kind.Kind.{Kind}
@@ -19,6 +21,9 @@ use Rattle.kernel_rules.specs.TickRule.{has_ended}
 use Rattle.kernel_rules.specs.Registers.{residual}
 use Rattle.kernel_rules.specs.LegalTick.{DomainState, IsCoherent, IsLegalTick, emitted_status, input_status, values_after}
 use Rattle.tick_log.specs.Runs.{statuses_of}
+use Rattle.tick_log.specs.RunText.{interface_signals}
+use Rattle.tick_log.specs.Fits.{IsSignalValue, IsStatus, AreStatuses}
+use Rattle.tick_log.proofs.Interfaces.{interface_found, interface_count}
 use Rattle.domain_core.specs.BuiltForms.{Plain, whole}
 use Rattle.domain_core.specs.Codes.{TellsTick}
 use Rattle.domain_core.specs.PureSignals.{HasPureOutputs}
@@ -71,6 +76,31 @@ interface_below tables d s is = elim (cases_lt s (length tables.signals)) [
   | inr past ↦
       absurd (true≢false (sym is ∙ ap (is_interface_of d) (past_table tables.signals s past) ∙ local_only (0 == d)))
 ]
+
+pure_status : (info : SignalInfo) (b : Bool) → info.kind ≡ None → IsStatus info.kind (cond b (Some (pos 0)) None)
+pure_status info true pure = subst (λ k. IsSignalValue k (pos 0)) (sym pure) refl
+pure_status info false pure = tt
+
+pure_statuses : (infos : List SignalInfo) (bs : List Bool) → length bs ≡ length infos → All (λ (i : SignalInfo). i.kind ≡ None) infos →
+    AreStatuses infos (statuses_of bs (replicate (length infos) (pos 0)))
+pure_statuses [] [] len pure = tt
+pure_statuses [] (b ∷ bs) len pure = absurd (omega (arith, len))
+pure_statuses (info ∷ infos) [] len pure = absurd (omega (arith, len))
+pure_statuses (info ∷ infos) (b ∷ bs) len pure =
+    (pure_status info b (pure 0 info (omega arith)), pure_statuses infos bs (omega (arith, len)) (λ k e less. pure (suc k) e (omega (arith, less))))
+
+-- an entry over pure outputs has a status of each interface signal
+pub statuses_fit : (tables : Tables) (d : ℕ) (shows : List Bool) → HasPureOutputs tables d → length shows ≡ length (interface_of tables d) →
+    AreStatuses (interface_signals tables d) (statuses_of shows (replicate (length (interface_of tables d)) (pos 0)))
+statuses_fit tables d shows pure len =
+    let found = filter (is_interface_of d) tables.signals in
+    let count = interface_count tables d in
+    let is_pure : All (λ (i : SignalInfo). is_interface_of d i ≡ true → i.kind ≡ None) tables.signals =
+    λ k e less is. let same = get_or_default tables.signals k no_signal e less in sym (ap (λ (i : SignalInfo). i.kind) same) ∙ (pure k (ap (is_interface_of d) same ∙ is)).pure in
+    let all_pure : All (λ (i : SignalInfo). i.kind ≡ None) found =
+    λ k e less. All-filter (is_interface_of d) (λ (i : SignalInfo). is_interface_of d i ≡ true → i.kind ≡ None) tables.signals is_pure k e less (filter_passes (is_interface_of d) tables.signals k e less) in
+    subst (λ l. AreStatuses l (statuses_of shows (replicate (length (interface_of tables d)) (pos 0)))) (sym (interface_found tables d))
+    (subst (λ n. AreStatuses found (statuses_of shows (replicate n (pos 0)))) (sym count) (pure_statuses found shows (len ∙ count) all_pure))
 
 module _ (tables : Tables) (d : ℕ) (p : Plain) (from : Stmt) (present : List Bool) (new : ℕ → ℤ) (ended : Bool)
     (pure : HasPureOutputs tables d) (tells : TellsTick tables (whole p) (length tables.signals) from present new ended) where

@@ -11,7 +11,7 @@ use Rattle.domain_core.specs.BuiltForms.{plain, is_built}
 use Rattle.domain_core.specs.BuiltLimits.{CanBuild}
 use Rattle.domain_core.specs.PureSignals.{HasPureOutputs}
 use Rattle.domain_core.specs.Systems.{Setup, start_of}
-use Rattle.domain_core.specs.Domains.{DomainView, joins_at, state_of}
+use Rattle.domain_core.specs.Domains.{DomainView, ends_in, joins_at, state_of}
 
 -- the domain of this number has built forms alone, pure outputs, and keeps the rules on loops and weight
 pub record CanCompile (system : System) (d : ℕ) : Type 0 where
@@ -33,5 +33,6 @@ pub record IsCompiled (system : System) (d : ℕ) (v : DomainView) : Type 0 wher
   pub outcome : v.outcome ≡ Going
   pub stamp : v.stamp ≡ 0
   pub standing : (n : ℕ) → get_or v.standing n false ≡ false
+  pub lists : length v.joins ≡ length (ends_in v)
   pub joins : (n : ℕ) → joins_at v.joins n ≡ []
   pub state : state_of v ≡ start_of (setup_of system) d

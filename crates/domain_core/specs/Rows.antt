@@ -1,7 +1,11 @@
 -- One concrete run, in numbers.
-use Rattle.std.specs.Prelude.{ℕ, pos, List, [], ◌∷◌, codes, Some, None}
+use Rattle.std.specs.Prelude.{◌≡◌, ℕ, pos, true, false, List, [], ◌∷◌, codes, get_or, Some, None}
 use Rattle.java_values.specs.declared.kind.Kind.TheVariants as kind
 use Rattle.kernel_terms.specs.declared.tables.Tables.{Tables}
+use Rattle.kernel_terms.specs.declared.term.Term.{Term}
+use Rattle.kernel_terms.specs.declared.system.System.{System}
+use Rattle.kernel_terms.specs.Systems.{tables_of, domains_of}
+use Rattle.kernel_terms.specs.WellFormed.{has_parts}
 use Rattle.kernel_terms.specs.declared.tables.Sort.TheVariants as sort
 use Rattle.kernel_terms.specs.declared.tables.Combine.TheVariants as combine
 use Rattle.kernel_terms.specs.Expressions.{Literal, ChannelValue}
@@ -10,6 +14,10 @@ use Rattle.cell_core.specs.declared.moves.Side.TheVariants.{Sender, Receiver}
 use Rattle.cell_core.specs.declared.moves.CellMove.TheVariants.{Offer, Recall}
 use Rattle.tick_log.specs.Runs.{Ended, RunState}
 use Rattle.domain_core.specs.Systems.{Setup}
+use Rattle.domain_core.specs.declared.outcome.Outcome.TheVariants.{Going}
+use Rattle.domain_core.specs.BuiltForms.{Plain, plain, is_built}
+use Rattle.domain_core.specs.BuiltForms as plains
+use Rattle.domain_core.specs.Domains.{DomainView, tables_in}
 use Rattle.domain_core.specs.Rounds.{Rounds, RoundsFit, NoneCut}
 use Rattle.domain_core.specs.Interleavings.{Action, MadeTick, MadeMove, IsInterleaving}
 
@@ -60,3 +68,36 @@ pub record IsByRounds (setup : Setup) (r : RunState) (actions : List Action) : T
   pub interleaved : IsInterleaving setup r rounds actions (λ c. [])
   pub fit : RoundsFit setup r rounds
   pub none_cut : NoneCut setup rounds
+
+-- the same tables, with a pure B
+abbrev pub pure_domains : Tables
+pure_domains = record {
+  signals =
+      record { name = codes "D"; domain = 0; sort = sort.Output; kind = None; combine = combine.Max } ∷
+      record { name = codes "B"; domain = 1; sort = sort.Output; kind = None; combine = combine.Max } ∷ [];
+  channels = record { name = codes "C"; kind = kind.Int; sender = 0; receiver = 1 } ∷ [];
+  variables = [];
+}
+
+-- the term has built forms alone and is this statement, and its lists aren't empty
+pub record IsTermOf (p : Plain) (t : Term) : Type 0 where
+  pub built : is_built t ≡ true
+  pub same : plain t ≡ p
+  pub parts : has_parts t ≡ true
+
+-- `send C(5); emit D;` and `receive C; emit B;` over the pure tables
+pub record IsPair (system : System) : Type 0 where
+  pub tables : tables_of system ≡ pure_domains
+  pub sending : Term
+  pub receiving : Term
+  pub domains : domains_of system ≡ sending ∷ receiving ∷ []
+  pub sends : IsTermOf (plains.Seq (plains.Send 0 (pos 5)) (plains.Emit 0)) sending
+  pub receives : IsTermOf (plains.Seq (plains.Receive 0) (plains.Emit 1)) receiving
+
+-- the second domain of that program, with memory for two ticks, before its first
+pub record IsReceiving (v : DomainView) : Type 0 where
+  pub tables : tables_in v ≡ pure_domains
+  pub number : v.domain ≡ 1
+  pub going : v.outcome ≡ Going
+  pub spare : v.spare ≡ 2
+  pub free : (n : ℕ) → get_or v.standing n false ≡ false

@@ -6,6 +6,8 @@ use Rattle.kernel_terms.specs.TableEntries.{channel_at}
 use Rattle.kernel_terms.specs.Statements.{Stmt}
 use Rattle.kernel_rules.specs.LegalTick.{DomainState, IsLegalTick}
 use Rattle.tick_log.specs.Runs.{mark_of}
+use Rattle.tick_log.specs.RunText.{interface_signals}
+use Rattle.tick_log.specs.Fits.{AreStatuses}
 use Rattle.cell_core.specs.declared.moves.Side.{Side}
 use Rattle.cell_core.specs.declared.moves.Side.TheVariants.{Sender, Receiver}
 use Rattle.cell_core.specs.declared.moves.Joined.{Joined}
@@ -132,6 +134,7 @@ pub record MakesTick (old new : DomainView) (answers replies : List (Option Join
   pub statuses : List (Option ℤ)
   pub after : DomainState
   pub legal : IsLegalTick (tables_in old) (λ s n. None) old.domain (with_answers (ends_in old) answers (length (ends_in old)) (state_of old)) statuses after
+  pub shows : AreStatuses (interface_signals (tables_in old) old.domain) statuses
   pub log : new.log ≡ record {
     entries = old.log.entries ++ record { stamp = stamp; statuses = statuses } ∷ [];
     mark = mark_of after.ended;

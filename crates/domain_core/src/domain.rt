@@ -1,12 +1,13 @@
 // A compiled domain.
 
-ghost use Rattle.std.specs.Prelude.{◌≡◌, ◌+◌, ◌^◌, ◌<◌, ◌≤◌, ℕ, cond, length, IfOk, IsErr, []};
-ghost use Rattle.tick_log.specs.Runs as runs;
+ghost use Rattle.std.specs.Prelude.{◌≡◌, ◌+◌, ◌^◌, ◌<◌, ◌≤◌, ℕ, cond, length, max, IfOk, IsErr};
+ghost use Rattle.kernel_terms.specs.Systems.{tables_of};
 ghost use Rattle.domain_core.specs.Compiling.{CanCompile, IsCompiled};
 
 use crate::codes::Codes;
 use crate::ends_of::{EndJoin, EndOf};
-use crate::opening::{list_ends, list_signals, open_scratch, open_state, room_lists};
+use crate::join_lists::grow;
+use crate::opening::{list_ends, list_signals, open_scratch, open_state};
 use crate::outcome::{Outcome, Stepped};
 use crate::parts::{
     Program, Scratch, State, ask, offer_phase, pick, recall_phase, stand_none, tick,
@@ -63,6 +64,12 @@ impl From<NoMemory> for CompileError {
     }
 }
 
+#[tactic(auto, using(crate::proofs::WellFormedSystems::limits_of_systems))]
+fn tell_limits(system: &System)
+    ensures signals { length (tables_of system.now).signals ≤ 16384 }
+    ensures channels { length (tables_of system.now).channels ≤ 64 }
+{}
+
 /// The domain of a number, before its first tick and with memory for none. It has the built forms
 /// alone, pure outputs, and keeps the rules on loops and weight.
 pub fn compile(alloc: Global, system: &System, domain: u32) -> Result<Domain, CompileError>
@@ -72,9 +79,7 @@ pub fn compile(alloc: Global, system: &System, domain: u32) -> Result<Domain, Co
     let tables = system.tables();
     let signals = tables.signals.as_slice();
     let channels = tables.channels.as_slice();
-    if signals.len() > u32::MAX as usize || channels.len() > u32::MAX as usize {
-        return Err(CompileError::NoMemory);
-    }
+    tell_limits(system);
     let terms = system.domains();
     let term = &terms[domain as usize];
     let program = Program {
@@ -116,21 +121,18 @@ fn stepped_to(ended: bool) -> Stepped
 }
 
 impl Domain {
-    ghost use Rattle.domain_core.specs.Domains.{ends_in, has_ended_as, joins_at};
+    ghost use Rattle.domain_core.specs.Domains.{ends_in, has_ended_as, joins_at, tick_count_of};
     ghost use Rattle.domain_core.specs.Steps.{FitsEnd, LeavesEnd, IsStep};
 
-    /// Takes the memory for so many ticks. The domain hasn't made one.
-    pub fn reserve(&mut self, alloc: Global, ticks: u32) -> Result<(), NoMemory>
-        requires { self.old.log ≡ record { entries = []; mark = runs.Going; signals = self.old.log.signals; room = self.old.log.room } }
-        ensures reserved { IfOk result (λ _. self.new ≡ record self.old { log = record { entries = []; mark = runs.Going; signals = self.old.log.signals; room = ticks }; spare = ticks }) }
+    /// Takes memory for at least so many ticks more.
+    pub fn reserve(&mut self, ticks: u32) -> Result<(), NoMemory>
+        requires { tick_count_of self.old + ticks < 2 ^ 32 }
+        ensures reserved { IfOk result (λ _. self.new ≡ record self.old { log = record self.old.log { room = max self.old.spare ticks }; spare = max self.old.spare ticks }) }
         ensures unchanged { IsErr result → self.new ≡ self.old }
     {
-        let signals = self.log.signals();
-        let lists = room_lists(alloc, self.program.ends.len(), ticks as usize)?;
-        let log = Log::open(alloc, signals, ticks)?;
-        self.state.joins = lists;
-        self.log = log;
-        Ok(())
+        let made = self.log.len() as usize;
+        grow(&mut self.state.joins, made + ticks as usize)?;
+        self.log.reserve(ticks)
     }
 
     /// The joins at an end, with the numbers of ticks that the domain had made.

@@ -1,6 +1,6 @@
 // The joins at the ends of a domain.
 
-ghost use Rattle.std.specs.Prelude.{◌≡◌, ◌≢◌, ◌+◌, ◌<◌, ◌≤◌, ℕ, [], ◌∷◌, ◌++◌, length, get_or, set, None, Some, IsSome, Vec, vec_len, vec_capacity};
+ghost use Rattle.std.specs.Prelude.{◌≡◌, ◌≢◌, ◌+◌, ◌<◌, ◌≤◌, ℕ, [], ◌∷◌, ◌++◌, length, get_or, set, None, Some, IsSome, IfOk, Vec, vec_len, vec_capacity};
 ghost use Rattle.std.specs.Global.{Global};
 ghost use Rattle.domain_core.specs.declared.ends_of.EndJoin.{EndJoin};
 ghost use Rattle.domain_core.specs.Steps.{add_join, add_joins};
@@ -8,6 +8,7 @@ ghost use Rattle.domain_core.specs.JoinLists.{joins_in, HasRoom};
 
 use crate::ends_of::EndJoin;
 use cell_core::Joined;
+use java_values::NoMemory;
 
 // Adds a join, into memory that is there already.
 fn push_within(list: &mut Vec<EndJoin>, join: EndJoin)
@@ -45,4 +46,27 @@ pub fn add_joins(lists: &mut Vec<Vec<EndJoin>>, answers: &[Option<Joined>], tick
     for at in 0..lists.len() {
         add_join(lists, at, answers[at], ticks);
     }
+}
+
+// Takes memory for at least so many joins.
+fn grow_list(list: &mut Vec<EndJoin>, room: usize) -> Result<(), NoMemory>
+    ensures items { list.new.items ≡ list.old.items }
+    ensures capacity { vec_capacity list.old ≤ vec_capacity list.new }
+    ensures room { IfOk result (λ _. room ≤ vec_capacity list.new) }
+{
+    list.reserve(room.saturating_sub(list.len()))?;
+    Ok(())
+}
+
+/// Takes memory for at least so many joins at each end. All joins stay, also where it is refused.
+pub fn grow(lists: &mut Vec<Vec<EndJoin>>, room: usize) -> Result<(), NoMemory>
+    ensures joins { joins_in lists.new.items ≡ joins_in lists.old.items }
+    ensures len { length lists.new.items ≡ length lists.old.items }
+    ensures capacity { (k : ℕ) (v : Vec EndJoin Global) → k < length lists.old.items → vec_capacity (get_or lists.old.items k v) ≤ vec_capacity (get_or lists.new.items k v) }
+    ensures room { IfOk result (λ _. (k : ℕ) (v : Vec EndJoin Global) → k < length lists.old.items → room ≤ vec_capacity (get_or lists.new.items k v)) }
+{
+    for at in 0..lists.len() {
+        grow_list(&mut lists[at], room)?;
+    }
+    Ok(())
 }

@@ -5,9 +5,14 @@ ghost use Rattle.std.specs.Prelude.{List, [], ◌∷◌, ◌++◌, length};
 ghost use Rattle.cell_core.specs.declared.moves.Side.{Side};
 ghost use Rattle.cell_core.specs.declared.moves.Joined.{Joined};
 ghost use Rattle.kernel_rules.specs.LegalTick.{DomainState};
+ghost use Rattle.kernel_terms.specs.declared.system.System.{System};
+ghost use Rattle.kernel_terms.specs.Systems.{domains_of};
 ghost use Rattle.tick_log.specs.Runs.{RunState, Entry, Mark, Going, mark_of};
+ghost use Rattle.tick_log.specs.Runs.{tick_count, join_count};
 ghost use Rattle.tick_log.specs.StampOrder.{Event, IsEventOf, stamp_of};
-ghost use Rattle.domain_core.specs.Systems.{Setup, SystemState, Move, IsSystem, IsFresh};
+ghost use Rattle.domain_core.specs.Systems.{Setup, SystemState, Move, Steps, start};
+ghost use Rattle.domain_core.specs.Systems.{sender_of, receiver_of, IsSystem, IsFresh};
+ghost use Rattle.domain_core.specs.Compiling.{setup_of};
 ghost use Rattle.domain_core.specs.LegalRuns.{Fits, HasStamps, IsLegalRun};
 ghost use Rattle.domain_core.specs.OwnRuns.{HasOwnRuns, EndsLegally, OwnRunsTo};
 ghost use Rattle.domain_core.specs.StampBound.{HasCause, CausesFirst, StampsWithin};
@@ -75,6 +80,30 @@ pub fn scheduled_runs_are_whole()
     ensures { (setup : Setup) (r : RunState) (turns : List ℕ) (end : SystemState) →
         IsSystem setup → IsFresh setup → Fits setup r → IsScheduledRun setup r turns end →
         IsWholeRun setup r turns }
+{}
+
+/// In steps from the start a channel has no more joins than either of its domains has ticks, and so
+/// it is in the run of given turns.
+pub fn joins_are_within_ticks()
+    ensures steps { (setup : Setup) (moves : List Move) (end : SystemState) → IsSystem setup →
+        IsFresh setup → Steps setup (start setup) moves end → (c : ℕ) →
+        (length (end.joins c) ≤ (end.domain (sender_of setup c)).ticks) ×
+        (length (end.joins c) ≤ (end.domain (receiver_of setup c)).ticks) }
+    ensures runs { (setup : Setup) (r : RunState) (turns : List ℕ) (end : SystemState) →
+        IsSystem setup → IsFresh setup → IsScheduledRun setup r turns end → (c : ℕ) →
+        (join_count r c ≤ tick_count r (sender_of setup c)) ×
+        (join_count r c ≤ tick_count r (receiver_of setup c)) }
+{}
+
+/// Each channel of a system joins two different ones of its domains, of which there are at most 16.
+pub fn systems_join_domains()
+    ensures joined { (system : System) → IsSystem (setup_of system) }
+    ensures few { (system : System) → length (domains_of system) ≤ 16 }
+{}
+
+/// No statement of a system waits at its start.
+pub fn systems_are_fresh()
+    ensures { (system : System) → IsFresh (setup_of system) }
 {}
 
 /// Rounds of the domains that fit the cell histories of the channels make the run legal. Where no

@@ -20,13 +20,15 @@ mod sites;
 pub use domain::{CompileError, Domain, compile};
 pub use ends_of::{EndJoin, EndOf};
 pub use laws::{
-    interleavings_close, interleavings_fit, legal_runs_have_own_runs, moves_and_joins_grow,
-    next_stamps_are_bounded, own_runs_are_legal, rounds_are_legal, rounds_grow,
-    scheduled_runs_are_whole, stamps_are_places, stamps_have_causes, stamps_have_no_gaps,
-    steps_are_legal,
+    interleavings_close, interleavings_fit, joins_are_within_ticks, legal_runs_have_own_runs,
+    moves_and_joins_grow, next_stamps_are_bounded, own_runs_are_legal, rounds_are_legal,
+    rounds_grow, scheduled_runs_are_whole, stamps_are_places, stamps_have_causes,
+    stamps_have_no_gaps, steps_are_legal, systems_are_fresh, systems_join_domains,
 };
 pub use outcome::{Outcome, Stepped};
 pub use rows::{one_rendezvous, rendezvous_by_rounds, stamps_count_joins};
 
 #[cfg(test)]
 mod codes_tests;
+#[cfg(test)]
+mod domain_tests;

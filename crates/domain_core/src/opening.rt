@@ -1,9 +1,7 @@
 // The parts of a compiled domain.
 
-ghost use Rattle.std.specs.Prelude.{◌≡◌, ◌^◌, ◌<◌, ◌≤◌, ◌+◌, ℕ, List, [], length, IfOk, replicate, false, Vec, vec_capacity, get_or};
+ghost use Rattle.std.specs.Prelude.{◌≡◌, ◌^◌, ◌<◌, ◌≤◌, [], length, IfOk, replicate, false};
 ghost use Rattle.kernel_terms.specs.TableEntries.{is_interface_of, numbers_where};
-ghost use Rattle.std.specs.Global.{Global};
-ghost use Rattle.domain_core.specs.declared.ends_of.EndJoin.{EndJoin};
 ghost use Rattle.domain_core.specs.DomainKeeps.{HasScratch};
 ghost use Rattle.domain_core.specs.Domains.{ends_from};
 ghost use Rattle.domain_core.specs.JoinLists.{joins_in};
@@ -79,19 +77,6 @@ pub fn empty_lists(alloc: Global, count: usize) -> Result<Vec<Vec<EndJoin>>, NoM
     let mut lists = Vec::new(alloc);
     for at in 0..count {
         lists.push(Vec::new(alloc))?;
-    }
-    Ok(lists)
-}
-
-/// A list of joins for each end, each with memory for so many.
-#[tactic(auto, using(crate::proofs::CompileLists::list_steps))]
-pub fn room_lists(alloc: Global, count: usize, room: usize) -> Result<Vec<Vec<EndJoin>>, NoMemory>
-    ensures joins { IfOk result (λ v. joins_in v.items ≡ replicate count []) }
-    ensures memory { IfOk result (λ v. ((k : ℕ) (w : Vec EndJoin Global) → k < count → room ≤ vec_capacity (get_or v.items k w))) }
-{
-    let mut lists = Vec::new(alloc);
-    for at in 0..count {
-        lists.push(Vec::with_capacity(alloc, room)?)?;
     }
     Ok(lists)
 }

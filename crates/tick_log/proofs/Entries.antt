@@ -1,5 +1,5 @@
 -- The entries of a log, from the stamps and the statuses that it keeps.
-use Rattle.std.proofs.Common.{◌≡◌, ℕ, zero, suc, ℤ, Bool, get_or, Vec, Global, ◌+◌, ◌-◌, ◌*◌, ◌≤◌, ◌<◌, List, [], ◌∷◌, ◌++◌, length, take, drop, refl, sym, ap, ◌∙◌, arith, vec_len, vec_capacity, Option, None, length-drop}
+use Rattle.std.proofs.Common.{◌≡◌, ℕ, zero, suc, ℤ, Bool, get_or, Vec, Global, ◌+◌, ◌-◌, ◌*◌, ◌^◌, ◌≤◌, ◌<◌, List, [], ◌∷◌, ◌++◌, length, take, drop, refl, sym, ap, ◌∙◌, arith, vec_len, vec_capacity, Option, None, length-drop}
 use Rattle.std.proofs.lemmas.List.{take-append-le, drop-append-le, take_all, nil_from_length, get_or-take, get_or-drop, get_or_read, drop-drop}
 use Rattle.std.proofs.lemmas.Nat.{mul-add-lt}
 use Rattle.tick_log.specs.Runs.{Entry, Mark, LogState, entry_at}
@@ -50,6 +50,22 @@ keeps_more stamps stamps' statuses statuses' n room ended ended' k some len wide
       places = omega (arith, places, k.places);
       fits = omega (arith, k.fits);
       last = λ _. omega arith;
+    }
+
+mul_sum : (n j k : ℕ) → n * (j + k) ≡ n * j + n * k
+mul_sum n j k = grind arith
+
+-- memory for so many ticks more
+pub keeps_reserved : (stamps stamps' : Vec ℕ Global) (statuses statuses' : Vec (Option ℤ) Global) (n room ticks : ℕ) (ended : Bool) → Keeps stamps statuses n room ended → vec_len stamps' + ticks < 2 ^ 32
+    → vec_len stamps' ≡ vec_len stamps → vec_len stamps' + ticks ≤ vec_capacity stamps' → vec_len statuses' ≡ vec_len statuses → vec_len statuses' + n * ticks ≤ vec_capacity statuses' → Keeps stamps' statuses' n ticks ended
+keeps_reserved stamps stamps' statuses statuses' n room ticks ended k fits len wide len' wide' =
+    let all : vec_len statuses' ≡ n * vec_len stamps' = len' ∙ k.all ∙ ap (λ k. n * k) (sym len) in
+    record {
+      all = all;
+      ticks = wide;
+      places = omega (arith, mul_sum n (vec_len stamps') ticks, all, wide');
+      fits = fits;
+      last = λ on. omega (arith, len, k.last on);
     }
 
 -- what the entries say, by what is kept

@@ -1,4 +1,4 @@
-ghost use Rattle.std.specs.Prelude.{◌≡◌, ◌+◌, ◌-◌, ◌<◌, ◌≤◌, [], ◌∷◌, ◌++◌, length, IfOk, IsOk, IsTrue, cond, slice_index_or, Some, None, vec_len, vec_capacity};
+ghost use Rattle.std.specs.Prelude.{◌≡◌, ◌+◌, ◌-◌, ◌^◌, ◌<◌, ◌≤◌, [], ◌∷◌, ◌++◌, length, max, IfOk, IsOk, IsErr, IsTrue, cond, slice_index_or, Some, None, vec_len, vec_capacity};
 ghost use Rattle.tick_log.specs.Runs.{Going, mark_of, statuses_of, entry_at};
 
 use java_values::NoMemory;
@@ -6,7 +6,8 @@ use std::alloc::Global;
 use std::marker::Model;
 
 /// The ticks of a domain: their stamps, which interface signals were present in each and with which
-/// values, and whether the domain has ended. All its memory is taken when it is opened.
+/// values, and whether the domain has ended. Its memory is taken when it is opened and where more is
+/// reserved.
 #[derive(Drop)]
 pub struct Log {
     stamps: Vec<u64>,
@@ -43,6 +44,22 @@ impl Log {
             room: ticks,
             ended: false,
         })
+    }
+
+    /// Takes memory for at least so many ticks more: `NoMemory` says that it was refused.
+    pub fn reserve(&mut self, ticks: u32) -> Result<(), NoMemory>
+        requires { length self.old.entries + ticks < 2 ^ 32 }
+        ensures reserved { IfOk result (λ _. self.new ≡ record self.old { room = max self.old.room ticks }) }
+        ensures unchanged { IsErr result → self.new ≡ self.old }
+    {
+        if ticks <= self.room {
+            return Ok(());
+        }
+        self.stamps.reserve(ticks as usize)?;
+        self.statuses
+            .reserve(self.signals as usize * ticks as usize)?;
+        self.room = ticks;
+        Ok(())
     }
 
     /// Adds a tick: its stamp, for each signal whether it was present and its value, which counts only

@@ -83,6 +83,23 @@ fn a_log_gives_back_what_was_pushed(rt: HostRuntime) -> Result<(), Fail> {
 }
 
 #[test]
+fn a_log_takes_ticks_that_were_reserved_later(rt: HostRuntime) -> Result<(), Fail> {
+    let mut log = Log::open(rt.alloc(), 1, 1)?;
+    log.push(1, &[true], &[7], false);
+    log.reserve(2)?;
+    log.push(3, &[false], &[0], false);
+    log.push(4, &[true], &[8], true);
+    assert_eq!(rt; log.len(), 3);
+    assert_eq!(rt; log.stamp(1), 1);
+    assert_eq!(rt; log.status(1, 0), Some(7));
+    assert_eq!(rt; log.stamp(2), 3);
+    assert_eq!(rt; log.status(2, 0), None);
+    assert_eq!(rt; log.stamp(3), 4);
+    assert_eq!(rt; log.status(3, 0), Some(8));
+    Ok(())
+}
+
+#[test]
 fn a_history_keeps_its_rows_in_order(rt: HostRuntime) -> Result<(), Fail> {
     let first = JoinRow {
         value: -3,
