@@ -1,26 +1,23 @@
-pub mod PlainLayers
-pub mod Pairs
-pub mod Residuals
-pub mod Wires
 pub mod Lists
-pub mod Building
-pub mod Ordered
-pub mod Merging
 pub mod WeightLemmas
-pub mod Starts
-pub mod Stepping
-pub mod Running
-pub mod Turns
-pub mod Scheduling
-pub mod Readings
+pub mod Acceptance
+pub mod Budgets
+pub mod ReadTurns
+pub mod RunWeights
+pub mod OrderLemmas
 pub mod WordLemmas
 pub mod ServeLemmas
+mod ReadPorts
 mod ReadGrammar
 mod ReadTokens
 mod ReadBlocks
 mod ReadNames
 mod ReadTerms
+mod ReadOwners
 mod ReadTables
+mod ReadDomains
+mod ReadSystems
 mod ReadPrograms
 mod ReadSources
 pub mod RowLemmas
+pub mod RendezvousRow

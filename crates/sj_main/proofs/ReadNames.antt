@@ -1,5 +1,5 @@
 -- Looking up and declaring names.
-use Rattle.std.proofs.Common.{◌≡◌, ℕ, suc, ◌+◌, ◌<◌, Bool, true, false, ◌&&◌, ◌||◌, not, cond, nat_lt, List, [], ◌∷◌, ◌++◌, length, map, Some, None, ap, refl, sym, ◌∙◌, arith, length-append}
+use Rattle.std.proofs.Common.{◌≡◌, ℕ, suc, ◌+◌, ◌<◌, Bool, true, false, ◌&&◌, ◌||◌, not, cond, nat_lt, List, [], ◌∷◌, ◌++◌, length, map, Some, None, ap, refl, sym, ◌∙◌, arith}
 use Rattle.std.specs.Prelude.{position, MatchBool, if◌then◌else◌}
 use Rattle.std.specs.List.{list_any, position_or_len}
 use Rattle.std.specs.Str.{bytes_eq}
@@ -8,8 +8,10 @@ use Rattle.std.proofs.lemmas.List.{map-append}
 use Rattle.std.proofs.lemmas.Bool.Decides.{nat_tests}
 use Rattle.std.proofs.lemmas.Slice.Eq.{bytes_eq-Decides}
 use Rattle.java_values.specs.Names.{are_distinct}
-use Rattle.kernel_terms.specs.Limits.{most_signals}
-use Rattle.sj_main.specs.ReadingNames.{AreNames, IsPlace, Declared, IsRefused}
+use Rattle.sj_main.specs.definitions.Grammar.{Port, SignalPort, ChannelPort}
+use Rattle.sj_main.specs.definitions.Programs.{Interface, interface_of, signal_names, channel_names}
+use Rattle.sj_main.specs.definitions.Accepted.{port_names}
+use Rattle.sj_main.specs.ReadingNames.{IsPlace, IsAdded, with_port, is_taken}
 
 suc_lt : (a b : ℕ) → nat_lt (1 + a) (suc b) ≡ nat_lt a b
 suc_lt a b = same_by_omega (nat_lt (1 + a) (suc b)) (nat_lt a b) (λ h. grind (arith, nat_tests)) (λ h. grind (arith, nat_tests))
@@ -79,7 +81,7 @@ bytes_swap a b = same (bytes_eq a b) (bytes_eq b a) (λ h. (bytes_eq-Decides b a
     same false false f g = refl
 
 -- a new name keeps the others apart
-distinct_push : (names : List (List ℕ)) (name : List ℕ) → are_distinct names ≡ true → list_any (bytes_eq name) names ≡ false → are_distinct (names ++ name ∷ []) ≡ true
+pub distinct_push : (names : List (List ℕ)) (name : List ℕ) → are_distinct names ≡ true → list_any (bytes_eq name) names ≡ false → are_distinct (names ++ name ∷ []) ≡ true
 distinct_push [] name d h = refl
 distinct_push (n ∷ ns) name d h =
     step (list_any (bytes_eq n) ns) (bytes_eq name n) (list_any (bytes_eq name) ns) (are_distinct ns) (list_any (bytes_eq n) (ns ++ name ∷ [])) (are_distinct (ns ++ name ∷ [])) d h
@@ -91,7 +93,7 @@ distinct_push (n ∷ ns) name d h =
     step false false c d e f h k i j = ap (λ x. not x && f) i ∙ j h k
 
 -- a repeated name doesn't
-distinct_not : (names more : List (List ℕ)) (name : List ℕ) → are_distinct (names ++ name ∷ more) ≡ true → list_any (bytes_eq name) names ≡ false
+pub distinct_not : (names more : List (List ℕ)) (name : List ℕ) → are_distinct (names ++ name ∷ more) ≡ true → list_any (bytes_eq name) names ≡ false
 distinct_not [] more name d = refl
 distinct_not (n ∷ ns) more name d =
     step (list_any (bytes_eq n) ns) (bytes_eq name n) (list_any (bytes_eq n) more) (list_any (bytes_eq n) (ns ++ name ∷ more)) (are_distinct (ns ++ name ∷ more)) (list_any (bytes_eq name) ns) d
@@ -103,18 +105,6 @@ distinct_not (n ∷ ns) more name d =
     step false true m false f c h k i = cc
     step false false m false f c h k i = i h
 
-pub declared_new : (names new : List (List ℕ)) (name : List ℕ) → AreNames names → length names < most_signals → list_any (bytes_eq name) names ≡ false → new ≡ names ++ name ∷ [] → Declared names new name
-declared_new names new name a l h e = record {
-  names = e;
-  good = rw e (record { distinct = distinct_push names name a.distinct h; few = rw (length-append names (name ∷ [])) (omega arith) });
-}
-
-pub refused_repeated : (names : List (List ℕ)) (name : List ℕ) → list_any (bytes_eq name) names ≡ true → IsRefused names name
-refused_repeated names name h = record { none = λ more a. apart (sym h ∙ distinct_not names more name a.distinct) }
-  where
-    apart : true ≡ false → ⊥
-    apart e = cc
-
 not_true : (b : Bool) → true ≡ not b → b ≡ false
 not_true true h = cc
 not_true false h = refl
@@ -123,15 +113,73 @@ not_false : (b : Bool) → false ≡ not b → b ≡ true
 not_false true h = refl
 not_false false h = cc
 
-pub declare_both : {X : Type 0} (f : X → List ℕ) (old new : List X) (v : X) (name : List ℕ) (added : Bool) → AreNames (map f old) → length old < most_signals → f v ≡ name
+pub added_both : {X : Type 0} (f : X → List ℕ) (old new : List X) (v : X) (name : List ℕ) (added : Bool) → f v ≡ name
     → added ≡ not (list_any (λ k. bytes_eq (f v) (f k)) old) → new ≡ (if list_any (λ k. bytes_eq (f v) (f k)) old then old else old ++ v ∷ [])
-    → MatchBool added (Declared (map f old) (map f new) name) (IsRefused (map f old) name)
-declare_both f old new v name true a l e h k =
+    → MatchBool added (IsAdded (map f old) (map f new) name) (list_any (bytes_eq name) (map f old) ≡ true)
+added_both f old new v name true e h k =
     let b = not_true (list_any (λ x. bytes_eq (f v) (f x)) old) h in
-    let n = length_map f old in
-    declared_new (map f old) (map f new) name a (omega arith)
-    (ap (λ w. list_any (bytes_eq w) (map f old)) (sym e) ∙ sym (any_map (bytes_eq (f v)) f old) ∙ b)
-    (ap (map f) (k ∙ ap (λ c. if c then old else old ++ v ∷ []) b) ∙ map-append f old (v ∷ []) ∙ ap (λ w. map f old ++ w ∷ []) e)
-declare_both f old new v name false a l e h k =
+    record {
+      names = ap (map f) (k ∙ ap (λ c. if c then old else old ++ v ∷ []) b) ∙ map-append f old (v ∷ []) ∙ ap (λ w. map f old ++ w ∷ []) e;
+      free = ap (λ w. list_any (bytes_eq w) (map f old)) (sym e) ∙ sym (any_map (bytes_eq (f v)) f old) ∙ b;
+    }
+added_both f old new v name false e h k =
     let b = not_false (list_any (λ x. bytes_eq (f v) (f x)) old) h in
-    refused_repeated (map f old) name (ap (λ w. list_any (bytes_eq w) (map f old)) (sym e) ∙ sym (any_map (bytes_eq (f v)) f old) ∙ b)
+    ap (λ w. list_any (bytes_eq w) (map f old)) (sym e) ∙ sym (any_map (bytes_eq (f v)) f old) ∙ b
+
+-- the interface of ports, of which one more is declared
+
+pub interface_push : (ports : List Port) (port : Port) → interface_of (ports ++ port ∷ []) ≡ with_port (interface_of ports) port
+interface_push [] (SignalPort n) = refl
+interface_push [] (ChannelPort n) = refl
+interface_push (SignalPort m ∷ ports) (SignalPort n) = ap (λ (i : Interface). let j : Interface = record { signals = m ∷ i.signals; channels = i.channels } in j) (interface_push ports (SignalPort n))
+interface_push (SignalPort m ∷ ports) (ChannelPort n) = ap (λ (i : Interface). let j : Interface = record { signals = m ∷ i.signals; channels = i.channels } in j) (interface_push ports (ChannelPort n))
+interface_push (ChannelPort m ∷ ports) (SignalPort n) = ap (λ (i : Interface). let j : Interface = record { signals = i.signals; channels = m ∷ i.channels } in j) (interface_push ports (SignalPort n))
+interface_push (ChannelPort m ∷ ports) (ChannelPort n) = ap (λ (i : Interface). let j : Interface = record { signals = i.signals; channels = m ∷ i.channels } in j) (interface_push ports (ChannelPort n))
+
+at_left : (b s c n : Bool) → n ≡ (s || c) → (b || n) ≡ ((b || s) || c)
+at_left true s c n h = refl
+at_left false s c n h = h
+
+at_right : (b s c n : Bool) → n ≡ (s || c) → (b || n) ≡ (s || (b || c))
+at_right true true c n h = refl
+at_right true false c n h = refl
+at_right false s c n h = h
+
+-- a name of a port is the name of a signal or of a channel
+pub taken_is : (ports : List Port) (name : List ℕ) → list_any (bytes_eq name) (port_names ports) ≡ is_taken (interface_of ports) name
+taken_is [] name = refl
+taken_is (SignalPort m ∷ ports) name = at_left (bytes_eq name m) (list_any (bytes_eq name) (signal_names ports)) (list_any (bytes_eq name) (channel_names ports)) (list_any (bytes_eq name) (port_names ports)) (taken_is ports name)
+taken_is (ChannelPort m ∷ ports) name = at_right (bytes_eq name m) (list_any (bytes_eq name) (signal_names ports)) (list_any (bytes_eq name) (channel_names ports)) (list_any (bytes_eq name) (port_names ports)) (taken_is ports name)
+
+-- a name between others that keep apart
+distinct_insert : (ns ms : List (List ℕ)) (name : List ℕ) → are_distinct (ns ++ ms) ≡ true → list_any (bytes_eq name) (ns ++ ms) ≡ false → are_distinct (ns ++ name ∷ ms) ≡ true
+distinct_insert [] ms name d h = ap (λ b. not b && are_distinct ms) h ∙ d
+distinct_insert (n ∷ ns) ms name d h =
+    step (list_any (bytes_eq n) ns) (list_any (bytes_eq n) ms) (bytes_eq name n) (list_any (bytes_eq name) (ns ++ ms)) (are_distinct (ns ++ ms)) (list_any (bytes_eq n) (ns ++ ms)) (list_any (bytes_eq n) (ns ++ name ∷ ms)) (are_distinct (ns ++ name ∷ ms)) d h
+    (list_any-append (bytes_eq n) ns ms) (list_any-append (bytes_eq n) ns (name ∷ ms) ∙ ap (λ b. list_any (bytes_eq n) ns || (b || list_any (bytes_eq n) ms)) (bytes_swap n name)) (distinct_insert ns ms name)
+  where
+    step : (a m b c d both e f : Bool) → (not both && d) ≡ true → (b || c) ≡ false → both ≡ (a || m) → e ≡ (a || (b || m)) → (d ≡ true → c ≡ false → f ≡ true) → (not e && f) ≡ true
+    step a m true c d both e f h k i j g = cc
+    step a m false c d true e f h k i j g = cc
+    step true m false c d false e f h k i j g = cc
+    step false true false c d false e f h k i j g = cc
+    step false false false c d false e f h k i j g = ap (λ x. not x && f) j ∙ g h k
+
+-- no signal has the name of another port, and no channel
+pub distinct_names : (ports : List Port) → are_distinct (port_names ports) ≡ true → are_distinct (signal_names ports ++ channel_names ports) ≡ true
+distinct_names [] h = refl
+distinct_names (SignalPort m ∷ ports) h =
+    step (list_any (bytes_eq m) (port_names ports)) (list_any (bytes_eq m) (signal_names ports ++ channel_names ports)) (are_distinct (port_names ports)) (are_distinct (signal_names ports ++ channel_names ports)) h
+    (taken_is ports m ∙ sym (list_any-append (bytes_eq m) (signal_names ports) (channel_names ports))) (distinct_names ports)
+  where
+    step : (a b c d : Bool) → (not a && c) ≡ true → a ≡ b → (c ≡ true → d ≡ true) → (not b && d) ≡ true
+    step true b c d h k i = cc
+    step false b c d h k i = ap (λ x. not x && d) (sym k) ∙ i h
+distinct_names (ChannelPort m ∷ ports) h =
+    let p = parts (list_any (bytes_eq m) (port_names ports)) (are_distinct (port_names ports)) h in
+    distinct_insert (signal_names ports) (channel_names ports) m (distinct_names ports p.1)
+    (list_any-append (bytes_eq m) (signal_names ports) (channel_names ports) ∙ sym (taken_is ports m) ∙ p.0)
+  where
+    parts : (a c : Bool) → (not a && c) ≡ true → (a ≡ false) × (c ≡ true)
+    parts true c h = cc
+    parts false c h = (refl, h)

@@ -1,128 +1,123 @@
--- The ports of a program, and the whole.
-use Rattle.std.proofs.Common.{◌≡◌, ℕ, true, List, [], ◌∷◌, ◌++◌, ap, sym, ◌∙◌, append_assoc, append-nil, subst}
-use Rattle.std.specs.List.{list_all}
-use Rattle.java_values.specs.Names.{is_name}
+-- A program as a whole.
+use Rattle.std.proofs.Common.{◌≡◌, ◌≤◌, ◌<◌, true, List, [], ◌∷◌, length, map, ap, sym, ◌∙◌, subst, arith}
+use Rattle.std.proofs.lemmas.List.{length-map}
 use Rattle.kernel_terms.specs.declared.term.Term.{Term}
+use Rattle.kernel_terms.specs.declared.tables.Tables.{Tables}
+use Rattle.kernel_terms.specs.declared.system.System.{System}
+use Rattle.kernel_terms.specs.Systems.{tables_of, domains_of}
+use Rattle.kernel_terms.specs.Limits.{most_channels}
+use Rattle.kernel_terms.specs.WellFormed.{is_well_formed}
 use Rattle.sj_main.specs.declared.token.Token.{Token}
-use Rattle.sj_main.specs.declared.token.Token.TheVariants.{Reserved, Sign, Name}
+use Rattle.sj_main.specs.declared.token.Token.TheVariants.{Reserved, Sign}
 use Rattle.sj_main.specs.declared.token.Word.TheVariants as word
 use Rattle.sj_main.specs.declared.token.Mark.TheVariants as mark
-use Rattle.sj_main.specs.definitions.Grammar.{Block, Program, block_tokens, port_tokens, program_tokens}
-use Rattle.kernel_terms.specs.declared.system.System.{System}
-use Rattle.sj_main.specs.definitions.Plain.{sequence}
-use Rattle.sj_main.proofs.ReadGrammar.{block_once, ports_once}
-use Rattle.sj_main.specs.ReadingNames.{AreNames, Declared, IsRefused}
-use Rattle.sj_main.specs.ReadingBlocks.{BeginsNot, IsRead, NoBlock, IsClosed, IsBlock}
-use Rattle.sj_main.specs.ReadingPrograms.{StartsPort, NoPort, ArePorts, PortsReach, PortsRead, NoPorts, StartsProgram, SignalsAreNames, IsNotEnd, IsReadFrom, NoProgram, IsSystemOf}
+use Rattle.sj_main.specs.BuiltTerms.{AreBuilt}
+use Rattle.domain_core.specs.BuiltForms.{plain}
+use Rattle.sj_main.specs.definitions.Grammar.{Block, Port, Program, ports_tokens, domain_tokens, others_tokens, program_tokens}
+use Rattle.sj_main.specs.definitions.Programs.{Interface, interface_of, block_statement, domain_statements, tables_for}
+use Rattle.sj_main.specs.definitions.Accepted.{KeepBlocks, KeepsOwners}
+use Rattle.sj_main.specs.ReadingNames.{IsSmall}
+use Rattle.sj_main.specs.ReadingOwners.{AreTablesOf, BreaksOwners}
+use Rattle.sj_main.specs.ReadingPrograms.{StartsProgram, StartsNoProgram, PortsRead, NoPorts, DomainsRead, NoDomains, PortsAreNamed, IsReadFrom, NoProgram}
+use Rattle.sj_main.proofs.ReadPorts.{ports_once, read_small}
+use Rattle.sj_main.proofs.ReadGrammar.{domain_once, others_once}
+use Rattle.sj_main.proofs.ReadSystems.{well_formed}
 
-same_name : (start : List Token) (n m : List ℕ) (r s : List Token) → StartsPort start n r → start ≡ Reserved word.Output ∷ Reserved word.Signal ∷ Name m ∷ Sign mark.Semicolon ∷ s → (n ≡ m) × (r ≡ s)
-same_name start n m r s p h = let i = p.is in (cc, cc)
-
-no_close : (start : List Token) (n : List ℕ) (r s : List Token) → StartsPort start n r → start ≡ Sign mark.CloseBrace ∷ s → ⊥
-no_close start n r s p h = let i = p.is in cc
-
-pub ports_more : (start front rest : List Token) (old new : List (List ℕ)) (name : List ℕ) → PortsReach start old front → StartsPort front name rest → Declared old new name → PortsReach start new rest
-ports_more start front rest old new name r p d = rw d.names (record {
-  there = λ more after q. rw (append_assoc old (name ∷ []) more) (r.there (name ∷ more) after
-      (record { is = p.is ∙ ap (λ l. Reserved word.Output ∷ Reserved word.Signal ∷ Name name ∷ Sign mark.Semicolon ∷ l) q.is }));
-  back = λ all after q. let b = r.back all after q in later all after b.0 b.1 b.2;
-  good = (rw d.names at d.good);
-})
-  where
-    later : (all : List (List ℕ)) (after : List Token) (more : List (List ℕ)) → all ≡ old ++ more → ArePorts front more after → (m : List (List ℕ)) × (all ≡ (old ++ name ∷ []) ++ m) × ArePorts rest m after
-    later all after [] e q = absurd (no_close front name rest after p q.is)
-    later all after (n ∷ ns) e q =
-        let s = same_name front name n rest (port_tokens ns ++ Sign mark.CloseBrace ∷ after) p q.is in
-        (ns, e ∙ ap (λ x. old ++ x ∷ ns) (sym s.0) ∙ sym (append_assoc old (name ∷ []) ns), record { is = s.1 })
-
-pub ports_end : (start front after : List Token) (names : List (List ℕ)) → PortsReach start names front → front ≡ Sign mark.CloseBrace ∷ after → PortsRead start names after
-ports_end start front after names r h = record {
-  ports = (let p = r.there [] after (record { is = h }) in record { is = p.is ∙ ap (λ l. port_tokens l ++ Sign mark.CloseBrace ∷ after) (append-nil names) });
-  good = r.good;
-}
-
-pub ports_refused : (start front rest : List Token) (names : List (List ℕ)) (name : List ℕ) → PortsReach start names front → StartsPort front name rest → IsRefused names name → NoPorts start
-ports_refused start front rest names name r p f = record { none = λ all after q a. let b = r.back all after q in stop all after b.0 b.1 b.2 a }
-  where
-    stop : (all : List (List ℕ)) (after : List Token) (more : List (List ℕ)) → all ≡ names ++ more → ArePorts front more after → AreNames all → ⊥
-    stop all after [] e q a = no_close front name rest after p q.is
-    stop all after (n ∷ ns) e q a =
-        let s = same_name front name n rest (port_tokens ns ++ Sign mark.CloseBrace ∷ after) p q.is in
-        let P : List (List ℕ) → Type 0 = λ x. AreNames x in
-        f.none ns (subst P (e ∙ ap (λ x. names ++ x ∷ ns) (sym s.0)) a)
-
-pub ports_none : (start front : List Token) (names : List (List ℕ)) → PortsReach start names front → BeginsNot (Sign mark.CloseBrace) front → NoPort front → NoPorts start
-ports_none start front names r c n = record { none = λ all after q a. let b = r.back all after q in stop after b.0 b.2 }
-  where
-    stop : (after : List Token) (more : List (List ℕ)) → ArePorts front more after → ⊥
-    stop after [] q = c.none after q.is
-    stop after (m ∷ ms) q = n.none m (port_tokens ms ++ Sign mark.CloseBrace ∷ after) (record { is = q.is })
-
-abbrev after_ports : Program → List Token
-after_ports p = Sign mark.OpenBrace ∷ (block_tokens p.body ++ Sign mark.CloseBrace ∷ Sign mark.CloseBrace ∷ [])
-
--- the tokens of a program begin with its head and its ports
-head_of : (p : Program) (tokens : List Token) → tokens ≡ program_tokens p → StartsProgram tokens (port_tokens p.signals ++ Sign mark.CloseBrace ∷ after_ports p)
-head_of p tokens h = record { is = h }
+pub program_head : (tokens : List Token) → StartsNoProgram tokens → NoProgram tokens
+program_head tokens n = record { none = λ p h k. n.none _ (record { is = h }) }
 
 same_ports : (tokens x y : List Token) → StartsProgram tokens x → StartsProgram tokens y → x ≡ y
 same_ports tokens x y a b = let i = a.is in let j = b.is in cc
 
-ports_of : (p : Program) (tokens inner : List Token) → StartsProgram tokens inner → tokens ≡ program_tokens p → ArePorts inner p.signals (after_ports p)
-ports_of p tokens inner s h = record { is = same_ports tokens inner (port_tokens p.signals ++ Sign mark.CloseBrace ∷ after_ports p) s (head_of p tokens h) }
+abbrev after_ports : Program → List Token
+after_ports p = domain_tokens p.first (others_tokens p.others (Sign mark.CloseBrace ∷ []))
+
+inner_is : (p : Program) (tokens inner : List Token) → StartsProgram tokens inner → tokens ≡ program_tokens p → inner ≡ ports_tokens p.ports (Sign mark.CloseBrace ∷ after_ports p)
+inner_is p tokens inner s h = same_ports tokens inner (ports_tokens p.ports (Sign mark.CloseBrace ∷ after_ports p)) s (record { is = h })
+
+pub inner_small : (tokens inner : List Token) → StartsProgram tokens inner → length tokens ≤ 1048576 → length inner ≤ 1048576
+inner_small tokens inner s l = let a = ap length s.is in omega arith
+
+pub names_small : (tokens inner rest : List Token) (i : Interface) → StartsProgram tokens inner → PortsRead inner i rest → length tokens ≤ 1048576 → IsSmall i
+names_small tokens inner rest i s r l = read_small inner rest i r (inner_small tokens inner s l)
+
+pub program_ports : (tokens inner : List Token) → StartsProgram tokens inner → NoPorts inner → NoProgram tokens
+program_ports tokens inner s n = record { none = λ p h k. n.none p.ports (after_ports p) (record { is = inner_is p tokens inner s h }) k.names.distinct }
 
 -- the ports that were read are those of any program with these tokens
-rest_of : (p : Program) (tokens inner body : List Token) (names : List (List ℕ)) → StartsProgram tokens inner → PortsRead inner names body → tokens ≡ program_tokens p → (names ≡ p.signals) × (body ≡ after_ports p)
-rest_of p tokens inner body names s r h = ports_once names p.signals body (after_ports p) (sym r.ports.is ∙ (ports_of p tokens inner s h).is)
+rest_of : (p : Program) (tokens inner rest : List Token) (i : Interface) → StartsProgram tokens inner → (r : PortsRead inner i rest) → tokens ≡ program_tokens p → (r.ports ≡ p.ports) × (rest ≡ after_ports p)
+rest_of p tokens inner rest i s r h = ports_once r.ports p.ports rest (after_ports p) (sym r.is.is ∙ inner_is p tokens inner s h)
 
-pub program_open : (tokens inner body : List Token) (names : List (List ℕ)) → StartsProgram tokens inner → PortsRead inner names body → BeginsNot (Sign mark.OpenBrace) body → NoProgram tokens
-program_open tokens inner body names s r n = record { none = λ p h k. n.none _ ((rest_of p tokens inner body names s r h).1) }
+interface_is : (p : Program) (tokens inner rest : List Token) (i : Interface) → StartsProgram tokens inner → PortsRead inner i rest → tokens ≡ program_tokens p → i ≡ interface_of p.ports
+interface_is p tokens inner rest i s r h = r.interface ∙ ap interface_of (rest_of p tokens inner rest i s r h).0
 
-same_opened : (body x y : List Token) → body ≡ Sign mark.OpenBrace ∷ x → body ≡ Sign mark.OpenBrace ∷ y → x ≡ y
-same_opened body x y a b = cc
-
-opened_of : (p : Program) (tokens inner body opened : List Token) (names : List (List ℕ)) → StartsProgram tokens inner → PortsRead inner names body → body ≡ Sign mark.OpenBrace ∷ opened → tokens ≡ program_tokens p
-    → IsClosed opened p.body (Sign mark.CloseBrace ∷ [])
-opened_of p tokens inner body opened names s r o h = record { is = same_opened body opened (block_tokens p.body ++ Sign mark.CloseBrace ∷ Sign mark.CloseBrace ∷ []) o ((rest_of p tokens inner body names s r h).1) }
-
-pub program_block : (tokens inner body opened : List Token) (names : List (List ℕ)) → StartsProgram tokens inner → PortsRead inner names body → body ≡ Sign mark.OpenBrace ∷ opened → NoBlock names 2 opened → NoProgram tokens
-program_block tokens inner body opened names s r o n = record {
-  none = λ p h k.
-      let e = (rest_of p tokens inner body names s r h).0 in
-      let P : List (List ℕ) → Type 0 = λ x. IsBlock x 2 p.body in
-      n.none p.body (Sign mark.CloseBrace ∷ []) (opened_of p tokens inner body opened names s r o h) (subst P (sym e) (record { declared = k.declared; depth = k.depth }));
+pub program_channels : (tokens inner rest : List Token) (i : Interface) → StartsProgram tokens inner → PortsRead inner i rest → most_channels < length i.channels → NoProgram tokens
+program_channels tokens inner rest i s r m = record {
+  none = λ p h k. (let e = ap (λ (x : Interface). length x.channels) (interface_is p tokens inner rest i s r h) in let l = k.names.channels in omega arith);
 }
 
-pub program_end : (tokens inner body opened end : List Token) (names : List (List ℕ)) (terms : List Term) → StartsProgram tokens inner → PortsRead inner names body → body ≡ Sign mark.OpenBrace ∷ opened
-    → IsRead names 2 opened terms end → IsNotEnd end → NoProgram tokens
-program_end tokens inner body opened end names terms s r o b n = record {
+pub program_domains : (tokens inner rest : List Token) (i : Interface) → StartsProgram tokens inner → PortsRead inner i rest → NoDomains i rest → NoProgram tokens
+program_domains tokens inner rest i s r n = record {
   none = λ p h k.
-      n.none ((block_once b.block p.body end (Sign mark.CloseBrace ∷ []) (sym b.closed.is ∙ (opened_of p tokens inner body opened names s r o h).is)).1);
+      n.none p.first p.others (record { is = (rest_of p tokens inner rest i s r h).1 })
+      (subst (λ x. KeepBlocks x (p.first ∷ p.others)) (sym (interface_is p tokens inner rest i s r h)) k.names.blocks) k.names.domains;
+}
+
+statements_are : (p : Program) (tokens inner rest : List Token) (i : Interface) (terms : List Term) → StartsProgram tokens inner → PortsRead inner i rest → DomainsRead i rest terms → tokens ≡ program_tokens p → domain_statements p ≡ map plain terms
+statements_are p tokens inner rest i terms s r d h =
+    let a = domain_once p.first d.first _ _ (sym (rest_of p tokens inner rest i s r h).1 ∙ d.is.is) in
+    let b = others_once p.others d.others [] [] a.1 in
+    ap (λ x. map (block_statement x) (p.first ∷ p.others)) (sym (interface_is p tokens inner rest i s r h))
+    ∙ ap (λ x. block_statement i x ∷ map (block_statement i) p.others) a.0
+    ∙ ap (λ x. block_statement i d.first ∷ map (block_statement i) x) b.0
+    ∙ sym d.meaning
+
+pub program_owners : (tokens inner rest : List Token) (i : Interface) (terms : List Term) → StartsProgram tokens inner → PortsRead inner i rest → DomainsRead i rest terms → BreaksOwners i (map plain terms) → NoProgram tokens
+program_owners tokens inner rest i terms s r d b = record {
+  none = λ p h k.
+      b.none (subst (λ x. KeepsOwners x (map plain terms)) (sym (interface_is p tokens inner rest i s r h))
+      (subst (λ x. KeepsOwners (interface_of p.ports) x) (statements_are p tokens inner rest i terms s r d h) k.owners));
 }
 
 -- the program that was read
-abbrev program_of : List (List ℕ) → Block → Program
-program_of names b = record { signals = names; body = b }
+abbrev program_of : List Port → Block → List Block → Program
+program_of ports first others = record { ports = ports; first = first; others = others }
 
-tokens_is : (tokens inner body opened end : List Token) (names : List (List ℕ)) (b : Block) → StartsProgram tokens inner → ArePorts inner names body → body ≡ Sign mark.OpenBrace ∷ opened → IsClosed opened b end
-    → end ≡ Sign mark.CloseBrace ∷ [] → tokens ≡ program_tokens (program_of names b)
-tokens_is tokens inner body opened end names b s r o c e =
+tokens_are : (tokens inner rest : List Token) (i : Interface) (terms : List Term) → StartsProgram tokens inner → (r : PortsRead inner i rest) → (d : DomainsRead i rest terms) → tokens ≡ program_tokens (program_of r.ports d.first d.others)
+tokens_are tokens inner rest i terms s r d =
     s.is ∙ ap (λ l. Reserved word.System ∷ Sign mark.OpenBrace ∷ Reserved word.Interface ∷ Sign mark.OpenBrace ∷ l)
-    (r.is ∙ ap (λ l. port_tokens names ++ Sign mark.CloseBrace ∷ l)
-    (o ∙ ap (λ l. Sign mark.OpenBrace ∷ l)
-    (c.is ∙ ap (λ l. block_tokens b ++ Sign mark.CloseBrace ∷ l) e)))
+    (r.is.is ∙ ap (λ l. ports_tokens r.ports (Sign mark.CloseBrace ∷ l)) d.is.is)
 
-pub program_named : (tokens inner body opened end : List Token) (names : List (List ℕ)) (terms : List Term) → SignalsAreNames tokens → StartsProgram tokens inner → PortsRead inner names body → body ≡ Sign mark.OpenBrace ∷ opened
-    → IsRead names 2 opened terms end → end ≡ Sign mark.CloseBrace ∷ [] → list_all is_name names ≡ true
-program_named tokens inner body opened end names terms a s r o b e =
-    a.named (program_of names b.block) (tokens_is tokens inner body opened end names b.block s r.ports o b.closed e)
+count_of_terms : (i : Interface) (rest : List Token) (terms : List Term) → (d : DomainsRead i rest terms) → length terms ≡ length (d.first ∷ d.others)
+count_of_terms i rest terms d = sym (length-map terms plain) ∙ ap length d.meaning ∙ length-map (d.first ∷ d.others) (block_statement i)
 
-pub program_read : (tokens inner body opened end : List Token) (names : List (List ℕ)) (terms : List Term) (system : System) → StartsProgram tokens inner → PortsRead inner names body → body ≡ Sign mark.OpenBrace ∷ opened
-    → IsRead names 2 opened terms end → end ≡ Sign mark.CloseBrace ∷ [] → IsSystemOf names terms system → IsReadFrom tokens system
-program_read tokens inner body opened end names terms system s r o b e y = record {
-  program = program_of names b.block;
-  is = tokens_is tokens inner body opened end names b.block s r.ports o b.closed e;
-  names = record { distinct = r.good.distinct; signals = r.good.few; declared = b.keeps.declared; depth = b.keeps.depth };
-  tables = y.tables;
-  domain = y.domain ∙ ap (λ l. sequence l ∷ []) b.parts;
+pub few_terms : (i : Interface) (rest : List Token) (terms : List Term) → DomainsRead i rest terms → length terms ≤ 16
+few_terms i rest terms d = let a = count_of_terms i rest terms d in let b = d.few in omega arith
+
+pub program_formed : (tokens inner rest : List Token) (i : Interface) (terms : List Term) (tables : Tables) → PortsAreNamed tokens → StartsProgram tokens inner → PortsRead inner i rest → length i.channels ≤ most_channels → DomainsRead i rest terms
+    → AreTablesOf i (map plain terms) tables → is_well_formed tables terms ≡ true
+program_formed tokens inner rest i terms tables n s r c d a =
+    let count = count_of_terms i rest terms d in
+    let few = d.few in
+    well_formed i r.ports terms tables r.interface (n.named (program_of r.ports d.first d.others) (tokens_are tokens inner rest i terms s r d)) r.distinct c (omega arith) (omega arith) d.built a
+
+pub program_read : (tokens inner rest : List Token) (i : Interface) (terms : List Term) (tables : Tables) (system : System) → StartsProgram tokens inner → PortsRead inner i rest → length i.channels ≤ most_channels → DomainsRead i rest terms
+    → AreTablesOf i (map plain terms) tables → tables_of system ≡ tables → domains_of system ≡ terms → IsReadFrom tokens system
+program_read tokens inner rest i terms tables system s r c d a t e = record {
+  program = program_of r.ports d.first d.others;
+  is = tokens_are tokens inner rest i terms s r d;
+  rules = record {
+    names = record {
+      distinct = r.distinct;
+      channels = subst (λ x. length x.channels ≤ most_channels) r.interface c;
+      domains = d.few;
+      blocks = subst (λ x. KeepBlocks x (d.first ∷ d.others)) r.interface d.keeps;
+    };
+    owners = subst (λ x. KeepsOwners x (map (block_statement x) (d.first ∷ d.others))) r.interface (subst (λ x. KeepsOwners i x) d.meaning a.keeps);
+  };
+  tables = t ∙ a.is ∙ ap (tables_for i) d.meaning ∙ ap (λ x. tables_for x (map (block_statement x) (d.first ∷ d.others))) r.interface;
+  domains = ap (map plain) e ∙ d.meaning ∙ ap (λ x. map (block_statement x) (d.first ∷ d.others)) r.interface;
+  built = subst (λ x. AreBuilt x (domains_of system)) r.interface (subst (λ x. AreBuilt i x) (sym e) d.built);
 }
+
+pub ruleset program_steps = (program_head, program_ports, inner_small, names_small, few_terms)

@@ -1,19 +1,20 @@
 -- What a source's bytes say of its program.
-use Rattle.std.proofs.Common.{◌≡◌, ℕ, ◌+◌, ◌≤◌, Bool, true, false, ◌&&◌, cond, ◌==◌, List, [], ◌∷◌, ◌++◌, length, drop, Option, Some, None, ap, refl, arith, subst, length-append}
+use Rattle.std.proofs.Common.{◌≡◌, ℕ, zero, suc, ◌+◌, ◌≤◌, ℤ, Bool, true, false, ◌&&◌, cond, ◌==◌, List, [], ◌∷◌, length, map, get_or, drop, Option, Some, None, ap, refl, arith, subst, length-append}
 use Rattle.std.specs.List.{list_all, prefix_len, take_while}
 use Rattle.java_values.specs.Names.{is_letter, is_word_byte, is_name}
 use Rattle.kernel_terms.specs.declared.system.System.{System}
-use Rattle.sj_main.specs.definitions.Plain.{Plain, sequence, sequence_from}
+use Rattle.domain_core.specs.BuiltForms.{Plain, Nothing, sequence, sequence_from}
 use Rattle.sj_main.specs.declared.token.Token.{Token}
 use Rattle.sj_main.specs.declared.token.Token.TheVariants.{Sign, Name}
 use Rattle.sj_main.specs.declared.token.Mark.TheVariants as mark
-use Rattle.sj_main.specs.Sizes.{size_of}
-use Rattle.sj_main.specs.definitions.Tokens.{skip_white, next_token, with_rest, word_token, sign_token, Spells}
-use Rattle.sj_main.specs.definitions.Grammar.{Block, Done, EmptyThen, PauseThen, EmitThen, WhileThen, Program, block_tokens, port_tokens, program_tokens}
-use Rattle.sj_main.specs.definitions.Accepted.{parts_of, domain_statement}
+use Rattle.domain_core.specs.BuiltLimits.{size_of}
+use Rattle.sj_main.specs.definitions.Tokens.{skip_white, next_token, with_rest, word_token, run_token, literal_value, as_number, sign_token, sign_front, Spells}
+use Rattle.sj_main.specs.definitions.Grammar.{Block, Done, EmptyThen, PauseThen, EmitThen, WhileThen, SendThen, ReceiveThen, Port, SignalPort, ChannelPort, Program, block_tokens, port_tokens, ports_tokens, domain_tokens, others_tokens, program_tokens}
+use Rattle.sj_main.specs.definitions.Programs.{Interface, interface_of, parts_of, block_statement, domain_statements}
+use Rattle.sj_main.specs.definitions.Accepted.{port_names}
 use Rattle.sj_main.specs.Reading.{IsReadAs, IsUnreadable}
 use Rattle.sj_main.specs.ReadingTokens.{SpellsNothing}
-use Rattle.sj_main.specs.ReadingPrograms.{SignalsAreNames, IsReadFrom, NoProgram}
+use Rattle.sj_main.specs.ReadingPrograms.{PortsAreNamed, IsReadFrom, NoProgram}
 use Rattle.sj_main.proofs.ReadTokens.{spells_once, spelled_length, word_gives_name}
 use Rattle.sj_main.proofs.ReadGrammar.{program_once}
 
@@ -35,31 +36,61 @@ sign_or false false false true e n h = cc
 sign_or false false false false true n h = cc
 sign_or false false false false false n h = cc
 
-name_by : (l : Bool) (b : ℕ) (w p bs rest n : List ℕ) → cond l (with_rest (word_token w) p) (with_rest (sign_token b) bs) ≡ Some (Name n, rest) → is_name n ≡ true
-name_by true b w p bs rest n e = word_gives_name w n (with_rest_is (word_token w) p rest (Name n) e)
-name_by false b w p bs rest n e = absurd (sign_or (b == 123) (b == 125) (b == 40) (b == 41) (b == 59) n (with_rest_is (sign_token b) bs rest (Name n) e))
+no_sign : (b : ℕ) (n : List ℕ) → sign_token b ≡ Some (Name n) → ⊥
+no_sign b n h = sign_or (b == 123) (b == 125) (b == 40) (b == 41) (b == 59) n h
+
+two_or : (x : Bool) (b c : ℕ) (cs rest n : List ℕ) → cond x (Some (Sign mark.Beside, cs)) (with_rest (sign_token b) (c ∷ cs)) ≡ Some (Name n, rest) → ⊥
+two_or true b c cs rest n h = beside cs rest n (Some (Sign mark.Beside)) refl h
+  where
+    beside : (cs rest n : List ℕ) (x : Option Token) → x ≡ Some (Sign mark.Beside) → with_rest (Some (Sign mark.Beside)) cs ≡ Some (Name n, rest) → ⊥
+    beside cs rest n x e h = let k = with_rest_is (Some (Sign mark.Beside)) cs rest (Name n) h in cc
+two_or false b c cs rest n h = no_sign b n (with_rest_is (sign_token b) (c ∷ cs) rest (Name n) h)
+
+no_front : (b : ℕ) (bs rest n : List ℕ) → sign_front b bs ≡ Some (Name n, rest) → ⊥
+no_front b [] rest n h = no_sign b n (with_rest_is (sign_token b) [] rest (Name n) h)
+no_front b (c ∷ cs) rest n h = two_or ((b == 62) && (c == 60)) b c cs rest n h
+
+no_number : (o : Option ℤ) (n : List ℕ) → as_number o ≡ Some (Name n) → ⊥
+no_number None n h = cc
+no_number (Some z) n h = cc
+
+name_run : (l : Bool) (w n : List ℕ) → cond l (word_token w) (as_number (literal_value w)) ≡ Some (Name n) → is_name n ≡ true
+name_run true w n h = word_gives_name w n h
+name_run false w n h = absurd (no_number (literal_value w) n h)
+
+name_by : (l : Bool) (b : ℕ) (w p bs rest n : List ℕ) → cond l (with_rest (run_token b w) p) (sign_front b bs) ≡ Some (Name n, rest) → is_name n ≡ true
+name_by true b w p bs rest n e = name_run (is_letter b) w n (with_rest_is (run_token b w) p rest (Name n) e)
+name_by false b w p bs rest n e = absurd (no_front b bs rest n e)
 
 next_name : (bytes rest n : List ℕ) → next_token bytes ≡ Some (Name n, rest) → is_name n ≡ true
 next_name [] rest n e = cc
-next_name (b ∷ bs) rest n e = name_by (is_letter b) b (take_while is_word_byte (b ∷ bs)) (drop (prefix_len is_word_byte (b ∷ bs)) (b ∷ bs)) bs rest n e
+next_name (b ∷ bs) rest n e = name_by (is_word_byte b) b (take_while is_word_byte (b ∷ bs)) (drop (prefix_len is_word_byte (b ∷ bs)) (b ∷ bs)) bs rest n e
 
 both_true : (a b : Bool) → a ≡ true → b ≡ true → (a && b) ≡ true
 both_true true b p q = q
 both_true false b p q = p
 
-ports_named : (bytes : List ℕ) (names : List (List ℕ)) (after : List Token) → Spells bytes (port_tokens names ++ after) → list_all is_name names ≡ true
+ports_named : (bytes : List ℕ) (ports : List Port) (after : List Token) → Spells bytes (ports_tokens ports after) → list_all is_name (port_names ports) ≡ true
 ports_named bytes [] after s = refl
-ports_named bytes (n ∷ ns) after s =
+ports_named bytes (SignalPort n ∷ ports) after s =
     let output = s.2 in
     let signal = output.2 in
     let name = signal.2 in
-    both_true (is_name n) (list_all is_name ns) (next_name (skip_white output.0) signal.0 n signal.1) (ports_named name.0 ns after name.2)
+    both_true (is_name n) (list_all is_name (port_names ports)) (next_name (skip_white output.0) signal.0 n signal.1) (ports_named name.0 ports after name.2)
+ports_named bytes (ChannelPort n ∷ ports) after s =
+    let int = s.2 in
+    let channel = int.2 in
+    let name = channel.2 in
+    both_true (is_name n) (list_all is_name (port_names ports)) (next_name (skip_white int.0) channel.0 n channel.1) (ports_named name.0 ports after name.2)
 
-program_named : (bytes : List ℕ) (p : Program) → Spells bytes (program_tokens p) → list_all is_name p.signals ≡ true
-program_named bytes p s = ports_named s.2.2.2.0 p.signals _ s.2.2.2.2
+program_named : (bytes : List ℕ) (p : Program) → Spells bytes (program_tokens p) → list_all is_name (port_names p.ports) ≡ true
+program_named bytes p s = ports_named s.2.2.2.0 p.ports _ s.2.2.2.2
 
-pub spelled_names : (bytes : List ℕ) (tokens : List Token) → Spells bytes tokens → SignalsAreNames tokens
+pub spelled_names : (bytes : List ℕ) (tokens : List Token) → Spells bytes tokens → PortsAreNamed tokens
 spelled_names bytes tokens s = record { named = λ p h. let P : List Token → Type 0 = λ t. Spells bytes t in program_named bytes p (subst P h s) }
+
+pub spelled_small : (bytes : List ℕ) (tokens : List Token) → Spells bytes tokens → length bytes ≤ 1048576 → length tokens ≤ 1048576
+spelled_small bytes tokens s l = let a = spelled_length bytes tokens s in omega arith
 
 -- how large the statements are
 total : List Plain → ℕ
@@ -76,31 +107,48 @@ unfolding total
 size_sequence [] = omega arith
 size_sequence (p ∷ ps) = let e = size_from p ps in omega arith
 
-size_parts : (names : List (List ℕ)) (b : Block) → total (parts_of names b) ≤ length (block_tokens b)
+size_parts : (i : Interface) (b : Block) → total (parts_of i b) ≤ length (block_tokens b)
 unfolding total
-size_parts names Done = omega arith
-size_parts names (EmptyThen b) = let h = size_parts names b in omega arith
-size_parts names (PauseThen b) = let h = size_parts names b in omega arith
-size_parts names (EmitThen n b) = let h = size_parts names b in omega arith
-size_parts names (WhileThen a b) =
-    let h = size_parts names b in
-    let g = size_parts names a in
-    let s = size_sequence (parts_of names a) in
+size_parts i Done = omega arith
+size_parts i (EmptyThen b) = let h = size_parts i b in omega arith
+size_parts i (PauseThen b) = let h = size_parts i b in omega arith
+size_parts i (EmitThen n b) = let h = size_parts i b in omega arith
+size_parts i (WhileThen a b) =
+    let h = size_parts i b in
+    let g = size_parts i a in
+    let s = size_sequence (parts_of i a) in
     let l = length-append (block_tokens a) (Sign mark.CloseBrace ∷ block_tokens b) in
     omega arith
+size_parts i (SendThen n z b) = let h = size_parts i b in omega arith
+size_parts i (ReceiveThen n b) = let h = size_parts i b in omega arith
 
-program_length : (p : Program) → length (block_tokens p.body) ≤ length (program_tokens p)
-program_length p =
-    let a = length-append (port_tokens p.signals) (Sign mark.CloseBrace ∷ Sign mark.OpenBrace ∷ (block_tokens p.body ++ Sign mark.CloseBrace ∷ Sign mark.CloseBrace ∷ [])) in
-    let b = length-append (block_tokens p.body) (Sign mark.CloseBrace ∷ Sign mark.CloseBrace ∷ []) in
-    omega arith
+size_block : (i : Interface) (b : Block) → size_of (block_statement i b) ≤ length (block_tokens b) + 1
+size_block i b = let a = size_sequence (parts_of i b) in let c = size_parts i b in omega arith
 
-source_size : (bytes : List ℕ) (p : Program) → Spells bytes (program_tokens p) → size_of (domain_statement p) ≤ length bytes + 1
-source_size bytes p s =
-    let a = size_sequence (parts_of p.signals p.body) in
-    let b = size_parts p.signals p.body in
-    let c = program_length p in
-    let d = spelled_length bytes (program_tokens p) s in
+size_others : (i : Interface) (bs : List Block) (after : List Token) (d : ℕ) → size_of (get_or (map (block_statement i) bs) d Nothing) ≤ length (others_tokens bs after) + 1
+size_others i [] after zero = omega arith
+size_others i [] after (suc d) = omega arith
+size_others i (b ∷ bs) after zero = let a = size_block i b in let l = length-append (block_tokens b) (Sign mark.CloseBrace ∷ others_tokens bs after) in omega arith
+size_others i (b ∷ bs) after (suc d) = let a = size_others i bs after d in let l = length-append (block_tokens b) (Sign mark.CloseBrace ∷ others_tokens bs after) in omega arith
+
+size_domains : (i : Interface) (b : Block) (bs : List Block) (after : List Token) (d : ℕ) → size_of (get_or (map (block_statement i) (b ∷ bs)) d Nothing) ≤ length (domain_tokens b (others_tokens bs after)) + 1
+size_domains i b bs after zero = let a = size_block i b in let l = length-append (block_tokens b) (Sign mark.CloseBrace ∷ others_tokens bs after) in omega arith
+size_domains i b bs after (suc d) = let a = size_others i bs after d in let l = length-append (block_tokens b) (Sign mark.CloseBrace ∷ others_tokens bs after) in omega arith
+
+port_length : (p : Port) (after : List Token) → length after ≤ length (port_tokens p after)
+port_length (SignalPort n) after = omega arith
+port_length (ChannelPort n) after = omega arith
+
+ports_length : (ports : List Port) (after : List Token) → length after ≤ length (ports_tokens ports after)
+ports_length [] after = omega arith
+ports_length (p ∷ ports) after = let a = ports_length ports after in let b = port_length p (ports_tokens ports after) in omega arith
+
+source_size : (bytes : List ℕ) (p : Program) → Spells bytes (program_tokens p) → (d : ℕ) → size_of (get_or (domain_statements p) d Nothing) ≤ length bytes + 1
+source_size bytes p s d =
+    let all = domain_tokens p.first (others_tokens p.others (Sign mark.CloseBrace ∷ [])) in
+    let a = size_domains (interface_of p.ports) p.first p.others (Sign mark.CloseBrace ∷ []) d in
+    let b = ports_length p.ports (Sign mark.CloseBrace ∷ all) in
+    let c = spelled_length bytes (program_tokens p) s in
     omega arith
 
 pub read_as : (bytes : List ℕ) (tokens : List Token) (system : System) → Spells bytes tokens → IsReadFrom tokens system → IsReadAs bytes system
@@ -110,10 +158,11 @@ read_as bytes tokens system s r =
     record {
       program = r.program;
       spells = h;
-      names = r.names;
+      rules = r.rules;
       only = λ p q. program_once p r.program (spells_once bytes (program_tokens p) (program_tokens r.program) q h);
       tables = r.tables;
-      domain = r.domain;
+      domains = r.domains;
+      built = r.built;
       size = source_size bytes r.program h;
     }
 

@@ -1,147 +1,179 @@
--- Pure outputs of one domain, and a built statement over them, are a system.
-use Rattle.std.proofs.Common.{◌≡◌, ℕ, zero, suc, ◌≤◌, ◌<◌, Bool, true, false, ◌&&◌, ◌||◌, ◌==◌, nat_lt, nat_le, List, [], ◌∷◌, ◌++◌, length, map, ap, refl, sym, ◌∙◌, subst, append-nil, get_or, arith}
-use Rattle.std.specs.Prelude.{Option, Some, None}
-use Rattle.std.specs.List.{list_all}
+-- The tables of domains that keep the rules on owners.
+use Rattle.std.proofs.Common.{◌≡◌, ℕ, zero, suc, ◌+◌, ◌<◌, ◌≤◌, Bool, true, false, nat_eq, nat_lt, cond, List, [], ◌∷◌, length, map, drop, get_or, Option, Some, None, ap, refl, sym, ◌∙◌, subst, arith, add-one}
+use Rattle.std.proofs.Math.Seq.{drop-cons}
+use Rattle.std.proofs.lemmas.List.{length-map}
+use Rattle.std.specs.Prelude.{unwrap_or}
 use Rattle.std.proofs.lemmas.Bool.Decides.{nat_tests}
-use Rattle.java_values.specs.Names.{is_name, are_distinct}
+use Rattle.java_values.specs.declared.kind.Kind.TheVariants.{Int}
 use Rattle.kernel_terms.specs.declared.term.Term.{Term}
 use Rattle.kernel_terms.specs.declared.tables.SignalInfo.{SignalInfo}
-use Rattle.kernel_terms.specs.TableEntries.{signal_at, is_input, is_local, is_interface_of, numbers_where}
+use Rattle.kernel_terms.specs.declared.tables.Sort.TheVariants.{Output}
+use Rattle.kernel_terms.specs.declared.tables.Combine.TheVariants.{Max}
+use Rattle.kernel_terms.specs.declared.tables.Tables.{Tables}
 use Rattle.kernel_terms.specs.Limits.{most_signals}
-use Rattle.kernel_terms.specs.WellFormed as well
-use Rattle.kernel_terms.specs.WellFormed.{interface_names, has_names, is_within_limits, has_entries, has_parts, fit_statements, declares_each_once, declared_by, fits_statement, can_emit, Scope, is_well_formed}
-use Rattle.kernel_terms.specs.Statements.{Stmt, Nothing, Pause, Emit, Assign, If, Present, Seq, Loop, Par, Trap, Exit, Abort, Suspend, Local, Send, Receive, SendWaits, Sent, ReceiveWaits, Received, statement}
-use Rattle.sj_main.specs.BuiltTerms.{is_built, fits_tables}
-use Rattle.sj_main.specs.ReadingNames.{AreNames}
-use Rattle.sj_main.specs.definitions.Programs.{pure_output, pure_outputs}
+use Rattle.kernel_terms.specs.TableEntries.{numbers_where}
+use Rattle.sj_main.specs.declared.reader.owners.Role.{Role}
+use Rattle.sj_main.specs.declared.reader.owners.Role.TheVariants as role
+use Rattle.sj_main.specs.BuiltTerms.{AreBuilt}
+use Rattle.domain_core.specs.BuiltForms.{Plain, plain}
+use Rattle.sj_main.specs.definitions.Programs.{Interface, emits_of, sends_of, receives_of, owner_of, signals_from, channels_from, tables_for}
+use Rattle.sj_main.specs.definitions.Accepted.{Uses, HasOne}
+use Rattle.sj_main.specs.ReadingOwners.{numbers_of, limit_of, AreOwners, IsShared, owner_in, count_of, AreFewEach, IsFull, IsPair, AreChannels, IsUnpaired, AreTablesOf, BreaksOwners}
+use Rattle.sj_main.proofs.ReadOwners.{uses_below, first_uses, stands_none}
 
-le_true : (a b : ℕ) → a ≤ b → nat_le a b ≡ true
-le_true a b h = grind (arith, nat_tests)
+drop_nothing : {X : Type 0} (k : ℕ) → drop {A = X} k [] ≡ []
+drop_nothing zero = refl
+drop_nothing (suc k) = refl
+
+drop_end : {X : Type 0} (xs : List X) (n : ℕ) → length xs ≤ n → drop n xs ≡ []
+drop_end [] n h = drop_nothing n
+drop_end (x ∷ xs) zero h = absurd (omega arith)
+drop_end (x ∷ xs) (suc n) h = drop_end xs n (omega arith)
+
+same_default : (xs : List (Option ℕ)) (n : ℕ) (a b : Option ℕ) → n < length xs → get_or xs n a ≡ get_or xs n b
+same_default [] n a b l = absurd (omega arith)
+same_default (x ∷ xs) zero a b l = refl
+same_default (x ∷ xs) (suc n) a b l = same_default xs n a b (omega arith)
 
 lt_of : (a b : ℕ) → nat_lt a b ≡ true → a < b
 lt_of a b h = grind (arith, nat_tests)
 
-both : (a b : Bool) → (a && b) ≡ true → (a ≡ true) × (b ≡ true)
-both true b h = (refl, h)
-both false b h = cc
+last_of : (a b : ℕ) → nat_lt a b ≡ false → a < b + 1 → b ≡ a
+last_of a b h l = grind (arith, nat_tests)
 
-and_true : (a b : Bool) → a ≡ true → b ≡ true → (a && b) ≡ true
-and_true true b g h = h
-and_true false b g h = g
+-- counting
 
-names_are : (names : List (List ℕ)) → interface_names (map pure_output names) ≡ names
-names_are [] = refl
-names_are (n ∷ ns) = ap (λ l. n ∷ l) (names_are ns)
+count_first : (d : ℕ) (all : List SignalInfo) (i : ℕ) (s : SignalInfo) → i < length all → s ≡ get_or all i s → count_of d (drop i all) ≡ cond (nat_eq s.domain d) 1 0 + count_of d (drop (i + 1) all)
+count_first d all i s lt is = rw (add-one, drop-cons all i s lt) (ap (λ (x : SignalInfo). cond (nat_eq x.domain d) 1 0 + count_of d (drop (suc i) all)) (sym is))
 
-first_are : (names : List (List ℕ)) → well.interface_comes_first (map pure_output names) ≡ true
-first_are [] = refl
-first_are (n ∷ ns) = first_are ns
+pub count_has : (d : ℕ) (all : List SignalInfo) (i n : ℕ) (s : SignalInfo) → i < length all → s ≡ get_or all i s → nat_eq s.domain d ≡ true → n + count_of d (drop i all) ≡ count_of d all → n + 1 + count_of d (drop (i + 1) all) ≡ count_of d all
+count_has d all i n s lt is h e = let a = count_first d all i s lt is ∙ ap (λ b. cond b 1 0 + count_of d (drop (i + 1) all)) h in omega arith
 
-entries_are : (names : List (List ℕ)) → list_all (well.is_signal_entry 1) (map pure_output names) ≡ true
-entries_are [] = refl
-entries_are (n ∷ ns) = entries_are ns
+pub count_has_not : (d : ℕ) (all : List SignalInfo) (i n : ℕ) (s : SignalInfo) → i < length all → s ≡ get_or all i s → nat_eq s.domain d ≡ false → n + count_of d (drop i all) ≡ count_of d all → n + count_of d (drop (i + 1) all) ≡ count_of d all
+count_has_not d all i n s lt is h e = let a = count_first d all i s lt is ∙ ap (λ b. cond b 1 0 + count_of d (drop (i + 1) all)) h in omega arith
 
-of_domain : (k : ℕ) (names : List (List ℕ)) → length (numbers_where (λ (s : SignalInfo). s.domain == 0) k (map pure_output names)) ≡ length names
-of_domain k [] = refl
-of_domain k (n ∷ ns) = ap suc (of_domain (suc k) ns)
+pub count_end : (d : ℕ) (all : List SignalInfo) (i n : ℕ) → length all ≤ i → n + count_of d (drop i all) ≡ count_of d all → n ≡ count_of d all
+count_end d all i n l e = let a = ap (count_of d) (drop_end all i l) in omega arith
 
-no_locals : (k : ℕ) (names : List (List ℕ)) → numbers_where (λ (s : SignalInfo). is_local s.sort) k (map pure_output names) ≡ []
-no_locals k [] = refl
-no_locals k (n ∷ ns) = no_locals (suc k) ns
+pub ruleset count_steps = (count_has, count_has_not, count_end)
 
-signal_is : (names : List (List ℕ)) (s : ℕ) → s < length names → signal_at (pure_outputs names) s ≡ pure_output (get_or names s [])
-signal_is [] s h = absurd (omega arith)
-signal_is (n ∷ ns) zero h = refl
-signal_is (n ∷ ns) (suc s) h = signal_is ns s (omega arith)
+pub few_start : (signals : List SignalInfo) → AreFewEach signals 0
+few_start signals = record { few = λ d l. absurd (omega arith) }
 
-emits : (names : List (List ℕ)) (scope : Scope) (s : ℕ) → scope.domain ≡ 0 → s < length names → (can_emit (pure_outputs names) scope s && well.is_emission (pure_outputs names) scope (signal_at (pure_outputs names) s).kind None) ≡ true
-emits names scope s d h =
-    let P : SignalInfo → Type 0 = λ i. (((is_interface_of scope.domain i || well.stands_in s scope.locals) && Rattle.std.specs.Prelude.not (is_input i.sort)) && well.is_emission (pure_outputs names) scope i.kind None) ≡ true in
-    subst P (sym (signal_is names s h)) (ap (λ e. (((0 == e) && true || well.stands_in s scope.locals) && true) && true) d)
+pub few_more : (signals : List SignalInfo) (n k : ℕ) → k ≡ count_of n signals → k ≤ most_signals → AreFewEach signals n → AreFewEach signals (n + 1)
+few_more signals n k e h f = record { few = λ d l. at d (nat_lt d n) refl l }
+  where
+    at : (d : ℕ) (b : Bool) → nat_lt d n ≡ b → d < n + 1 → count_of d signals ≤ most_signals
+    at d true g l = f.few d (lt_of d n g)
+    at d false g l = subst (λ m. count_of m signals ≤ most_signals) (last_of d n g l) (subst (λ m. m ≤ most_signals) e h)
 
--- a built statement keeps the rules on uses and kinds, and declares no local signal
-fits_built : (names : List (List ℕ)) (scope : Scope) (p : Stmt) → scope.domain ≡ 0 → is_built (length names) p ≡ true → fits_statement (pure_outputs names) scope p ≡ true
-fits_built names scope Nothing d h = refl
-fits_built names scope Pause d h = refl
-fits_built names scope (Emit s None) d h = emits names scope s d (lt_of s (length names) h)
-fits_built names scope (Emit s (Some e)) d h = cc
-fits_built names scope (Assign x e) d h = cc
-fits_built names scope (If e p q) d h = cc
-fits_built names scope (Present t p q) d h = cc
-fits_built names scope (Seq p q) d h =
-    let b = both (is_built (length names) p) (is_built (length names) q) h in
-    and_true (fits_statement (pure_outputs names) scope p) (fits_statement (pure_outputs names) scope q) (fits_built names scope p d b.0) (fits_built names scope q d b.1)
-fits_built names scope (Loop p) d h = fits_built names scope p d h
-fits_built names scope (Par p q) d h = cc
-fits_built names scope (Trap p) d h = cc
-fits_built names scope (Exit n) d h = cc
-fits_built names scope (Abort weak armed t p) d h = cc
-fits_built names scope (Suspend armed t p) d h = cc
-fits_built names scope (Local s v p) d h = cc
-fits_built names scope (Send c e) d h = cc
-fits_built names scope (Receive c) d h = cc
-fits_built names scope (SendWaits c v) d h = cc
-fits_built names scope (Sent c) d h = cc
-fits_built names scope (ReceiveWaits c) d h = cc
-fits_built names scope (Received c) d h = cc
+pub few_not : (signals : List SignalInfo) (n k domains : ℕ) → k ≡ count_of n signals → most_signals < k → n < domains → IsFull signals domains
+few_not signals n k domains e h l = record { domain = n; within = l; many = subst (λ m. most_signals < m) e h }
 
-declares_none : (n : ℕ) (p : Stmt) → is_built n p ≡ true → declared_by p ≡ []
-declares_none n Nothing h = refl
-declares_none n Pause h = refl
-declares_none n (Emit s e) h = refl
-declares_none n (Assign x e) h = refl
-declares_none n (If e p q) h = cc
-declares_none n (Present t p q) h = cc
-declares_none n (Seq p q) h =
-    let b = both (is_built n p) (is_built n q) h in
-    let e = declares_none n p b.0 in
-    let f = declares_none n q b.1 in
-    ap (λ l. l ++ declared_by q) e ∙ f
-declares_none n (Loop p) h = declares_none n p h
-declares_none n (Par p q) h = cc
-declares_none n (Trap p) h = cc
-declares_none n (Exit d) h = refl
-declares_none n (Abort weak armed t p) h = cc
-declares_none n (Suspend armed t p) h = cc
-declares_none n (Local s v p) h = cc
-declares_none n (Send c e) h = refl
-declares_none n (Receive c) h = refl
-declares_none n (SendWaits c v) h = refl
-declares_none n (Sent c) h = refl
-declares_none n (ReceiveWaits c) h = refl
-declares_none n (Received c) h = refl
+pub ruleset few_steps = (few_start, few_more, few_not)
 
-names_hold : (names : List (List ℕ)) → list_all is_name names ≡ true → AreNames names → has_names (pure_outputs names) ≡ true
-names_hold names n a =
-    let e = names_are names in
-    and_true (list_all is_name (interface_names (map pure_output names))) (are_distinct (interface_names (map pure_output names) ++ []))
-    (ap (list_all is_name) e ∙ n)
-    (ap are_distinct (append-nil (interface_names (map pure_output names)) ∙ e) ∙ a.distinct)
+pub pair_none : (a b : Option ℕ) → a ≡ None → IsPair a b → ⊥
+pair_none a b e p = let s = p.sends in cc
 
-limits_hold : (names : List (List ℕ)) → AreNames names → is_within_limits (pure_outputs names) 1 ≡ true
-limits_hold names a = ap (λ k. (nat_le k most_signals && true) && true) (of_domain 0 names) ∙ ap (λ b. (b && true) && true) (le_true (length names) most_signals a.few)
+pub pair_half : (a b : Option ℕ) → b ≡ None → IsPair a b → ⊥
+pair_half a b e p = let s = p.receives in cc
 
-entries_hold : (names : List (List ℕ)) → has_entries (pure_outputs names) 1 ≡ true
-entries_hold names = and_true (list_all (well.is_signal_entry 1) (map pure_output names)) (well.interface_comes_first (map pure_output names) && true) (entries_are names) (ap (λ b. b && true) (first_are names))
+some_same : (a b : ℕ) → Some a ≡ Some b → a ≡ b
+some_same a b h = cc
 
-one_fits : (names : List (List ℕ)) (t : Term) → is_built (length names) (statement t) ≡ true → fit_statements (pure_outputs names) 0 (statement t ∷ []) ≡ true
-one_fits names t h = and_true (fits_statement (pure_outputs names) (record { domain = 0; traps = 0; locals = [] }) (statement t)) true (fits_built names (record { domain = 0; traps = 0; locals = [] }) (statement t) refl h) refl
+pub pair_same : (a b : Option ℕ) (m n : ℕ) → a ≡ Some m → b ≡ Some n → m ≡ n → IsPair a b → ⊥
+pair_same a b m n x y e p = p.apart (some_same p.from m (sym p.sends ∙ x) ∙ e ∙ some_same n p.to (sym y ∙ p.receives))
 
-once : (names : List (List ℕ)) (t : Term) → is_built (length names) (statement t) ≡ true → declares_each_once (pure_outputs names) (statement t ∷ []) ≡ true
-once names t h =
-    let e : declared_by (statement t) ++ [] ≡ [] = ap (λ l. l ++ []) (declares_none (length names) (statement t) h) in
-    ap (λ l. well.are_apart l && list_all (λ s. well.stands_in s l) (numbers_where (λ (s : SignalInfo). is_local s.sort) 0 (map pure_output names))) e
-    ∙ ap (list_all (λ s. well.stands_in s [])) (no_locals 0 names)
+pub ruleset pairing = (pair_none, pair_half, pair_same)
 
-pub well_formed : (names : List (List ℕ)) (domains : List Term) (t : Term) → domains ≡ t ∷ [] → list_all is_name names ≡ true → AreNames names
-    → fits_tables (length names) t ≡ true → is_well_formed (pure_outputs names) domains ≡ true
-well_formed names domains t g n a f =
-    let b = both (has_parts t) (is_built (length names) (statement t)) f in
-    let go : is_well_formed (pure_outputs names) (t ∷ []) ≡ true =
-    and_true (has_names (pure_outputs names)) _ (names_hold names n a)
-    (and_true (is_within_limits (pure_outputs names) 1) _ (limits_hold names a)
-    (and_true (has_entries (pure_outputs names) 1) _ (entries_hold names)
-    (and_true (has_parts t && true) _ (ap (λ x. x && true) b.0)
-    (and_true (fit_statements (pure_outputs names) 0 (statement t ∷ [])) _ (one_fits names t b.1) (once names t b.1)))))
-    in
-    subst (λ d. is_well_formed (pure_outputs names) d ≡ true) (sym g) go
+-- the rules on owners
+
+count_cond : (b : Bool) (k m : ℕ) (r : List ℕ) → length r ≡ m → length (cond b (k ∷ r) r) ≡ cond b 1 0 + m
+count_cond true k m r h = omega arith
+count_cond false k m r h = omega arith
+
+count_is : (d k : ℕ) (ss : List SignalInfo) → length (numbers_where (λ (s : SignalInfo). nat_eq s.domain d) k ss) ≡ count_of d ss
+count_is d k [] = refl
+count_is d k (s ∷ ss) = count_cond (nat_eq s.domain d) k (count_of d ss) (numbers_where (λ (x : SignalInfo). nat_eq x.domain d) (suc k) ss) (count_is d (suc k) ss)
+
+signals_same : (f g : ℕ → ℕ) (k : ℕ) (names : List (List ℕ)) → ((n : ℕ) → f n ≡ g n) → signals_from f k names ≡ signals_from g k names
+signals_same f g k [] h = refl
+signals_same f g k (n ∷ ns) h =
+    ap (λ d. (record { name = n; domain = d; sort = Output; kind = None; combine = Max }) ∷ signals_from f (suc k) ns) (h k)
+    ∙ ap (λ l. (record { name = n; domain = g k; sort = Output; kind = None; combine = Max }) ∷ l) (signals_same f g (suc k) ns h)
+
+channels_same : (f g s t : ℕ → ℕ) (k : ℕ) (names : List (List ℕ)) → ((n : ℕ) → f n ≡ g n) → ((n : ℕ) → s n ≡ t n) → channels_from f s k names ≡ channels_from g t k names
+channels_same f g s t k [] h e = refl
+channels_same f g s t k (n ∷ ns) h e =
+    ap (λ d. (record { name = n; kind = Int; sender = d; receiver = s k }) ∷ channels_from f s (suc k) ns) (h k)
+    ∙ ap (λ d. (record { name = n; kind = Int; sender = g k; receiver = d }) ∷ channels_from f s (suc k) ns) (e k)
+    ∙ ap (λ l. (record { name = n; kind = Int; sender = g k; receiver = t k }) ∷ l) (channels_same f g s t (suc k) ns h e)
+
+owner_is : (r : Role) (ps : List Plain) (owners : List (Option ℕ)) → AreOwners r ps owners → (n : ℕ) → owner_in owners n ≡ owner_of (numbers_of r) ps n
+owner_is r ps owners o n = ap (λ x. unwrap_or x 0) (o.is n)
+
+signals_are : (i : Interface) (ps : List Plain) (owners : List (Option ℕ)) (signals : List SignalInfo) → AreOwners role.Emitter ps owners → signals ≡ signals_from (owner_in owners) 0 i.signals → signals ≡ (tables_for i ps).signals
+signals_are i ps owners signals o h = h ∙ signals_same (owner_in owners) (owner_of emits_of ps) 0 i.signals (owner_is role.Emitter ps owners o)
+
+uses_within : (r : Role) (i : Interface) (ts : List Term) (d n : ℕ) → AreBuilt i ts → Uses (numbers_of r) (map plain ts) d n → n < limit_of r i
+uses_within r i [] d n b h = absurd (stands_none r n h)
+uses_within r i (t ∷ ts) zero n b h = (uses_below r i (plain t) b.0.uses).below n h
+uses_within r i (t ∷ ts) (suc d) n b h = uses_within r i ts d n b.1 h
+
+pub shared_sender : (i : Interface) (ts : List Term) → AreBuilt i ts → IsShared role.Sender (map plain ts) → BreaksOwners i (map plain ts)
+shared_sender i ts b s = record {
+  none = λ k. (let j = k.joined s.number (uses_within role.Sender i ts s.first s.number b s.one) in s.differ (j.sender.only s.first s.one ∙ sym (j.sender.only s.second s.other)));
+}
+
+pub shared_receiver : (i : Interface) (ts : List Term) → AreBuilt i ts → IsShared role.Receiver (map plain ts) → BreaksOwners i (map plain ts)
+shared_receiver i ts b s = record {
+  none = λ k. (let j = k.joined s.number (uses_within role.Receiver i ts s.first s.number b s.one) in s.differ (j.receiver.only s.first s.one ∙ sym (j.receiver.only s.second s.other)));
+}
+
+pub full_domain : (i : Interface) (ps : List Plain) (owners : List (Option ℕ)) (signals : List SignalInfo) (domains : ℕ) → AreOwners role.Emitter ps owners → signals ≡ signals_from (owner_in owners) 0 i.signals → domains ≡ length ps → IsFull signals domains
+    → BreaksOwners i ps
+full_domain i ps owners signals domains o h e f = record {
+  none = λ k. (let a = ap (count_of f.domain) (signals_are i ps owners signals o h) in let b = count_is f.domain 0 (tables_for i ps).signals in let l = f.within in let c = k.few f.domain (omega arith) in let m = f.many in omega arith);
+}
+
+pub unpaired_channel : (i : Interface) (ps : List Plain) (senders receivers : List (Option ℕ)) → AreOwners role.Sender ps senders → AreOwners role.Receiver ps receivers → IsUnpaired senders receivers (length i.channels) → BreaksOwners i ps
+unpaired_channel i ps senders receivers s r u = record {
+  none = λ k.
+      let j = k.joined u.channel u.within in
+      u.none (record {
+        from = j.sender.domain;
+        to = j.receiver.domain;
+        sends = s.is u.channel ∙ s.kept.alone u.channel j.sender.domain j.sender.is;
+        receives = r.is u.channel ∙ r.kept.alone u.channel j.receiver.domain j.receiver.is;
+        apart = j.apart;
+      });
+}
+
+one_of : (r : Role) (ps : List Plain) (owners : List (Option ℕ)) (n d : ℕ) → AreOwners r ps owners → get_or owners n None ≡ Some d → HasOne (numbers_of r) ps n
+one_of r ps owners n d o h =
+    let f = first_uses r n 0 d ps (sym (o.is n) ∙ h) in
+    let same : d ≡ f.0 = (let a = f.1 in omega arith) in
+    record { domain = d; is = subst (λ k. Uses (numbers_of r) ps k n) (sym same) f.3; only = λ e u. some_same e d (sym (o.kept.alone n e u) ∙ sym (o.is n) ∙ h) }
+
+pub tables_found : (i : Interface) (ps : List Plain) (emitters senders receivers : List (Option ℕ)) (domains : ℕ) (tables : Tables) → AreOwners role.Emitter ps emitters → AreOwners role.Sender ps senders → AreOwners role.Receiver ps receivers
+    → tables.signals ≡ signals_from (owner_in emitters) 0 i.signals → domains ≡ length ps → AreFewEach tables.signals domains → AreChannels i.channels senders receivers tables.channels → tables.variables ≡ [] → AreTablesOf i ps tables
+unfolding one_of
+tables_found i ps emitters senders receivers domains tables e s r h n f c v = record {
+  is =
+      let a = signals_are i ps emitters tables.signals e h in
+      let b = c.is ∙ channels_same (owner_in senders) (owner_of sends_of ps) (owner_in receivers) (owner_of receives_of ps) 0 i.channels (owner_is role.Sender ps senders s) (owner_is role.Receiver ps receivers r) in
+      ap (λ x. let t : Tables = record { signals = x; channels = tables.channels; variables = tables.variables } in t) a
+      ∙ ap (λ x. let t : Tables = record { signals = (tables_for i ps).signals; channels = x; variables = tables.variables } in t) b
+      ∙ ap (λ x. let t : Tables = record { signals = (tables_for i ps).signals; channels = (tables_for i ps).channels; variables = x } in t) v;
+  keeps = record {
+    emitters = λ m d g x y. some_same d g (sym (e.kept.alone m d x) ∙ e.kept.alone m g y);
+    few = λ d l. (let a = ap (count_of d) (signals_are i ps emitters tables.signals e h) in let b = count_is d 0 (tables_for i ps).signals in let k = f.few d (omega arith) in omega arith);
+    joined = λ m l. (let p = c.pairs.pair m l in record { sender = one_of role.Sender ps senders m p.from s p.sends; receiver = one_of role.Receiver ps receivers m p.to r p.receives; apart = p.apart });
+  };
+  emitters = e.kept;
+  senders = s.kept;
+  receivers = r.kept;
+}
+
+pub count_domains : (ts : List Term) → length ts ≡ length (map plain ts)
+count_domains ts = sym (length-map ts plain)

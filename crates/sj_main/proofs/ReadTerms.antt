@@ -1,20 +1,34 @@
--- Whether a tree is one of the built forms, one layer at a time.
-use Rattle.std.proofs.Common.{◌≡◌, ℕ, Bool, true, false, ◌&&◌, List, [], ◌∷◌, map, ap, ◌∙◌, sym, refl, nat_lt, ◌≤◌, length, arith}
+-- A tree of the built forms, one layer at a time.
+use Rattle.std.proofs.Common.{◌≡◌, ℕ, ℤ, ◌<◌, Bool, true, false, ◌&&◌, List, [], ◌∷◌, map, ap, ◌∙◌, sym, refl, nat_lt, ◌≤◌, length, arith}
+use Rattle.std.proofs.Common.{rules, pos, negsuc, to_z, of_z, w32, w64, FitsSigned}
+use Rattle.std.specs.Prelude.{Option, None, int_le}
 use Rattle.std.specs.List.{list_all}
-use Rattle.std.specs.Prelude.{Option, None}
+use Rattle.std.proofs.lemmas.Int.{to_z-of_z}
+use Rattle.std.proofs.lemmas.Bool.Decides.{nat_tests}
+use Rattle.java_values.specs.Kinds.{lowest, highest}
+use Rattle.java_values.specs.declared.kind.Kind.{Kind}
+use Rattle.java_values.specs.declared.kind.Kind.TheVariants.{Int}
 use Rattle.kernel_terms.specs.declared.expr.Expr.{Expr}
+use Rattle.kernel_terms.specs.declared.expr.ExprForm.{ExprForm}
+use Rattle.kernel_terms.specs.declared.expr.ExprForm as value
+use Rattle.kernel_terms.specs.declared.expr.ExprForm.TheOpen.{ExprForm-F}
+use Rattle.kernel_terms.specs.declared.expr.ExprForm.TheFolds.{fold-ExprForm, fold-roll-ExprForm, fold_out-Expr}
+use Rattle.kernel_terms.specs.declared.expr.ExprForm.TheVariants.{rolls-Literal}
+use Rattle.kernel_terms.specs.Expressions.{Expression, Literal, expression, form_expression, node_expression}
 use Rattle.kernel_terms.specs.declared.term.Term.{Term}
 use Rattle.kernel_terms.specs.declared.term.Form.{Form}
 use Rattle.kernel_terms.specs.declared.term.Form.TheOpen.{Form-F}
 use Rattle.kernel_terms.specs.declared.term.Form.TheFolds.{fold-Form, fold-roll-Form, fold_out-Term}
-use Rattle.kernel_terms.specs.declared.term.Form.TheVariants.{rolls-Seq, rolls-Loop, rolls-Nothing, rolls-Pause, rolls-Emit}
+use Rattle.kernel_terms.specs.declared.term.Form.TheVariants.{rolls-Seq, rolls-Loop, rolls-Nothing, rolls-Pause, rolls-Emit, rolls-Send, rolls-Receive}
 use Rattle.kernel_terms.specs.declared.term.Form as form
 use Rattle.kernel_terms.specs.WellFormed.{has_parts, has_some, form_has_parts, term_has_parts}
-use Rattle.kernel_terms.specs.Statements.{Stmt, Nothing, Pause, Emit, sequence_from, statement, statement_of_form, form_statement, term_statement}
-use Rattle.kernel_terms.proofs.Layers.{statement-Seq, statement-Loop}
-use Rattle.sj_main.specs.BuiltTerms.{fits_tables, is_built}
-use Rattle.sj_main.proofs.PlainLayers.{plain-Seq}
+use Rattle.domain_core.specs.BuiltForms.{Plain, Nothing, Pause, Emit, Send, Receive, plain, plain_of_form, form_plain, term_plain, is_built, is_built_form, form_built, term_built, all_built, is_int_literal, number_of, sequence_from}
+use Rattle.domain_core.proofs.BuiltLayers.{plain-Seq, plain-Loop}
+use Rattle.sj_main.specs.BuiltTerms.{is_int, is_within, IsBuilt, AreBuilt}
+use Rattle.sj_main.specs.definitions.Programs.{Interface}
 use Rattle.sj_main.specs.ReadingBlocks.{IsSequence}
+
+-- lists of parts have some
 
 parts_of_form : Form → Bool
 parts_of_form = fold-Form Bool Bool form_has_parts term_has_parts
@@ -43,64 +57,163 @@ parts-Emit : (t : Term) (s : ℕ) (e : Option Expr) → t.form ≡ form.Emit s e
 unfolding parts_of_form
 parts-Emit t s e h = parts_out t ∙ ap parts_of_form (h ∙ sym (rolls-Emit s e)) ∙ fold-roll-Form Bool Bool form_has_parts term_has_parts (Form-F.Emit s e)
 
-statement_out : (t : Term) → statement t ≡ statement_of_form t.form
-statement_out = fold_out-Term Stmt Stmt form_statement term_statement
+parts-Send : (t : Term) (c : ℕ) (e : Expr) → t.form ≡ form.Send c e → has_parts t ≡ true
+unfolding parts_of_form
+parts-Send t c e h = parts_out t ∙ ap parts_of_form (h ∙ sym (rolls-Send c e)) ∙ fold-roll-Form Bool Bool form_has_parts term_has_parts (Form-F.Send c e)
 
-statement-Nothing : (t : Term) → t.form ≡ form.Nothing → statement t ≡ Nothing
-statement-Nothing t h = statement_out t ∙ ap statement_of_form (h ∙ sym rolls-Nothing) ∙ fold-roll-Form Stmt Stmt form_statement term_statement Form-F.Nothing
+parts-Receive : (t : Term) (c : ℕ) → t.form ≡ form.Receive c → has_parts t ≡ true
+unfolding parts_of_form
+parts-Receive t c h = parts_out t ∙ ap parts_of_form (h ∙ sym (rolls-Receive c)) ∙ fold-roll-Form Bool Bool form_has_parts term_has_parts (Form-F.Receive c)
 
-statement-Pause : (t : Term) → t.form ≡ form.Pause → statement t ≡ Pause
-statement-Pause t h = statement_out t ∙ ap statement_of_form (h ∙ sym rolls-Pause) ∙ fold-roll-Form Stmt Stmt form_statement term_statement Form-F.Pause
+-- the forms are built
 
-statement-Emit : (t : Term) (s : ℕ) → t.form ≡ form.Emit s None → statement t ≡ Emit s None
-statement-Emit t s h = statement_out t ∙ ap statement_of_form (h ∙ sym (rolls-Emit s None)) ∙ fold-roll-Form Stmt Stmt form_statement term_statement (Form-F.Emit s None)
+forms_out : (t : Term) → is_built t ≡ is_built_form t.form
+forms_out = fold_out-Term Bool Bool form_built term_built
 
-pub fits-Loop : (n : ℕ) (t body : Term) → t.form ≡ form.Loop body → fits_tables n t ≡ fits_tables n body
-fits-Loop n t body h = let a = parts-Loop t body h in let b = ap (is_built n) (statement-Loop t body h) in cc
+forms-Seq : (t : Term) (v : List Term) → t.form ≡ form.Seq v → is_built t ≡ all_built (map is_built v)
+forms-Seq t v h = forms_out t ∙ ap is_built_form (h ∙ sym (rolls-Seq v)) ∙ fold-roll-Form Bool Bool form_built term_built (Form-F.Seq v)
 
-pub fits-Nothing : (t : Term) → t.form ≡ form.Nothing → (n : ℕ) → fits_tables n t ≡ true
-fits-Nothing t h n = ap (λ b. b && is_built n (statement t)) (parts-Nothing t h) ∙ ap (is_built n) (statement-Nothing t h)
+forms-Loop : (t body : Term) → t.form ≡ form.Loop body → is_built t ≡ is_built body
+forms-Loop t body h = forms_out t ∙ ap is_built_form (h ∙ sym (rolls-Loop body)) ∙ fold-roll-Form Bool Bool form_built term_built (Form-F.Loop body)
 
-pub fits-Pause : (t : Term) → t.form ≡ form.Pause → (n : ℕ) → fits_tables n t ≡ true
-fits-Pause t h n = ap (λ b. b && is_built n (statement t)) (parts-Pause t h) ∙ ap (is_built n) (statement-Pause t h)
+forms-Nothing : (t : Term) → t.form ≡ form.Nothing → is_built t ≡ true
+forms-Nothing t h = forms_out t ∙ ap is_built_form (h ∙ sym rolls-Nothing) ∙ fold-roll-Form Bool Bool form_built term_built Form-F.Nothing
 
-pub fits-Emit : (t : Term) (s : ℕ) → t.form ≡ form.Emit s None → (n : ℕ) → fits_tables n t ≡ nat_lt s n
-fits-Emit t s h n = ap (λ b. b && is_built n (statement t)) (parts-Emit t s None h) ∙ ap (is_built n) (statement-Emit t s h)
+forms-Pause : (t : Term) → t.form ≡ form.Pause → is_built t ≡ true
+forms-Pause t h = forms_out t ∙ ap is_built_form (h ∙ sym rolls-Pause) ∙ fold-roll-Form Bool Bool form_built term_built Form-F.Pause
 
-both : (a b : Bool) → (a && b) ≡ true → (a ≡ true) × (b ≡ true)
-both true b h = (refl, h)
-both false b h = cc
+forms-Emit : (t : Term) (s : ℕ) → t.form ≡ form.Emit s None → is_built t ≡ true
+forms-Emit t s h = forms_out t ∙ ap is_built_form (h ∙ sym (rolls-Emit s None)) ∙ fold-roll-Form Bool Bool form_built term_built (Form-F.Emit s None)
+
+forms-Send : (t : Term) (c : ℕ) (e : Expr) (n : ℤ) → t.form ≡ form.Send c e → expression e ≡ Literal Int n → is_built t ≡ true
+forms-Send t c e n h l = forms_out t ∙ ap is_built_form (h ∙ sym (rolls-Send c e)) ∙ fold-roll-Form Bool Bool form_built term_built (Form-F.Send c e) ∙ ap is_int_literal l
+
+forms-Receive : (t : Term) (c : ℕ) → t.form ≡ form.Receive c → is_built t ≡ true
+forms-Receive t c h = forms_out t ∙ ap is_built_form (h ∙ sym (rolls-Receive c)) ∙ fold-roll-Form Bool Bool form_built term_built (Form-F.Receive c)
+
+-- the built statement
+
+plain_out : (t : Term) → plain t ≡ plain_of_form t.form
+plain_out = fold_out-Term Plain Plain form_plain term_plain
+
+pub plain-Nothing : (t : Term) → t.form ≡ form.Nothing → plain t ≡ Nothing
+plain-Nothing t h = plain_out t ∙ ap plain_of_form (h ∙ sym rolls-Nothing) ∙ fold-roll-Form Plain Plain form_plain term_plain Form-F.Nothing
+
+pub plain-Pause : (t : Term) → t.form ≡ form.Pause → plain t ≡ Pause
+plain-Pause t h = plain_out t ∙ ap plain_of_form (h ∙ sym rolls-Pause) ∙ fold-roll-Form Plain Plain form_plain term_plain Form-F.Pause
+
+pub plain-Emit : (t : Term) (s : ℕ) → t.form ≡ form.Emit s None → plain t ≡ Emit s
+plain-Emit t s h = plain_out t ∙ ap plain_of_form (h ∙ sym (rolls-Emit s None)) ∙ fold-roll-Form Plain Plain form_plain term_plain (Form-F.Emit s None)
+
+pub plain-Send : (t : Term) (c : ℕ) (e : Expr) (n : ℤ) → t.form ≡ form.Send c e → expression e ≡ Literal Int n → plain t ≡ Send c n
+plain-Send t c e n h l =
+    plain_out t ∙ ap plain_of_form (h ∙ sym (rolls-Send c e)) ∙ fold-roll-Form Plain Plain form_plain term_plain (Form-F.Send c e) ∙ ap (λ x. Send c (number_of x)) l
+
+pub plain-Receive : (t : Term) (c : ℕ) → t.form ≡ form.Receive c → plain t ≡ Receive c
+plain-Receive t c h = plain_out t ∙ ap plain_of_form (h ∙ sym (rolls-Receive c)) ∙ fold-roll-Form Plain Plain form_plain term_plain (Form-F.Receive c)
+
+-- a literal's expression
+
+value_of_form : ExprForm → Kind → Expression
+value_of_form = fold-ExprForm (Kind → Expression) Expression form_expression node_expression
+
+value_out : (e : Expr) → expression e ≡ value_of_form e.form e.kind
+unfolding value_of_form
+value_out = fold_out-Expr (Kind → Expression) Expression form_expression node_expression
+
+pub literal_is : (e : Expr) (n : ℤ) → e.form ≡ value.Literal n → e.kind ≡ Int → expression e ≡ Literal Int n
+unfolding value_of_form
+literal_is e n h k =
+    value_out e ∙ ap (λ f. value_of_form f e.kind) (h ∙ sym (rolls-Literal n)) ∙ ap (λ (f : Kind → Expression). f e.kind) (fold-roll-ExprForm (Kind → Expression) Expression form_expression node_expression (ExprForm-F.Literal n))
+    ∙ ap (λ x. Literal x n) k
+
+-- terms of the built forms
+
+within : Interface → Plain → Bool
+within i p = is_within (length i.signals) (length i.channels) p
+
+pub built-Nothing : (t : Term) → t.form ≡ form.Nothing → (i : Interface) → IsBuilt i t
+unfolding within
+built-Nothing t h i = record { parts = parts-Nothing t h; forms = forms-Nothing t h; uses = ap (within i) (plain-Nothing t h) }
+
+pub built-Pause : (t : Term) → t.form ≡ form.Pause → (i : Interface) → IsBuilt i t
+unfolding within
+built-Pause t h i = record { parts = parts-Pause t h; forms = forms-Pause t h; uses = ap (within i) (plain-Pause t h) }
+
+lt_true : (a b : ℕ) → a < b → nat_lt a b ≡ true
+lt_true a b h = grind (arith, nat_tests)
 
 and_true : (a b : Bool) → a ≡ true → b ≡ true → (a && b) ≡ true
 and_true true b g h = h
 and_true false b g h = g
 
--- the terms of a list that fit have their parts, and stand for built statements
-all_parts : (n : ℕ) (ts : List Term) → list_all (fits_tables n) ts ≡ true → list_all (λ b. b) (map has_parts ts) ≡ true
-all_parts n [] h = refl
-all_parts n (t ∷ ts) h =
-    let a = both (fits_tables n t) (list_all (fits_tables n) ts) h in
-    let b = both (has_parts t) (is_built n (statement t)) a.0 in
-    and_true (has_parts t) (list_all (λ c. c) (map has_parts ts)) b.0 (all_parts n ts a.1)
+both : (a b : Bool) → (a && b) ≡ true → (a ≡ true) × (b ≡ true)
+both true b h = (refl, h)
+both false b h = cc
 
-built_from : (n : ℕ) (t : Term) (ts : List Term) → fits_tables n t ≡ true → list_all (fits_tables n) ts ≡ true → is_built n (sequence_from (statement t) (map statement ts)) ≡ true
-built_from n t [] g h = (both (has_parts t) (is_built n (statement t)) g).1
-built_from n t (u ∷ us) g h =
-    let a = both (fits_tables n u) (list_all (fits_tables n) us) h in
-    and_true (is_built n (statement t)) (is_built n (sequence_from (statement u) (map statement us))) (both (has_parts t) (is_built n (statement t)) g).1 (built_from n u us a.0 a.1)
+pub built-Emit : (t : Term) (s : ℕ) → t.form ≡ form.Emit s None → (i : Interface) → s < length i.signals → IsBuilt i t
+unfolding within
+built-Emit t s h i l = record { parts = parts-Emit t s None h; forms = forms-Emit t s h; uses = ap (within i) (plain-Emit t s h) ∙ lt_true s (length i.signals) l }
 
-fits-Seq : (n : ℕ) (t first : Term) (rest : List Term) → t.form ≡ form.Seq (first ∷ rest) → list_all (fits_tables n) (first ∷ rest) ≡ true → fits_tables n t ≡ true
-fits-Seq n t first rest h a =
-    let b = both (fits_tables n first) (list_all (fits_tables n) rest) a in
-    let parts : has_parts t ≡ true = parts-Seq t (first ∷ rest) h ∙ and_true (has_parts first) (list_all (λ c. c) (map has_parts rest)) (both (has_parts first) (is_built n (statement first)) b.0).0 (all_parts n rest b.1) in
-    and_true (has_parts t) (is_built n (statement t)) parts (ap (is_built n) (statement-Seq t (first ∷ rest) h) ∙ built_from n first rest b.0 b.1)
+pub built-Receive : (t : Term) (c : ℕ) → t.form ≡ form.Receive c → (i : Interface) → c < length i.channels → IsBuilt i t
+unfolding within
+built-Receive t c h i l = record { parts = parts-Receive t c h; forms = forms-Receive t c h; uses = ap (within i) (plain-Receive t c h) ∙ lt_true c (length i.channels) l }
+
+pub built-Send : (t : Term) (c : ℕ) (e : Expr) (n : ℤ) → t.form ≡ form.Send c e → expression e ≡ Literal Int n → is_int n ≡ true → (i : Interface) → c < length i.channels → IsBuilt i t
+unfolding within
+built-Send t c e n h v r i l = record {
+  parts = parts-Send t c e h;
+  forms = forms-Send t c e n h v;
+  uses = ap (within i) (plain-Send t c e n h v) ∙ and_true (nat_lt c (length i.channels)) (is_int n) (lt_true c (length i.channels) l) r;
+}
+
+pub built-Loop : (t body : Term) → t.form ≡ form.Loop body → (i : Interface) → IsBuilt i body → IsBuilt i t
+unfolding within
+built-Loop t body h i b = record { parts = parts-Loop t body h ∙ b.parts; forms = forms-Loop t body h ∙ b.forms; uses = ap (within i) (plain-Loop t body h) ∙ b.uses }
+
+all_parts : (i : Interface) (ts : List Term) → AreBuilt i ts → list_all (λ b. b) (map has_parts ts) ≡ true
+all_parts i [] h = refl
+all_parts i (t ∷ ts) h = and_true (has_parts t) (list_all (λ c. c) (map has_parts ts)) h.0.parts (all_parts i ts h.1)
+
+all_forms : (i : Interface) (ts : List Term) → AreBuilt i ts → all_built (map is_built ts) ≡ true
+all_forms i [] h = refl
+all_forms i (t ∷ ts) h = and_true (is_built t) (all_built (map is_built ts)) h.0.forms (all_forms i ts h.1)
+
+uses_from : (i : Interface) (t : Term) (ts : List Term) → IsBuilt i t → AreBuilt i ts → within i (sequence_from (plain t) (map plain ts)) ≡ true
+unfolding within
+uses_from i t [] g h = g.uses
+uses_from i t (u ∷ us) g h = and_true (is_within (length i.signals) (length i.channels) (plain t)) _ g.uses (uses_from i u us h.0 h.1)
+
+built-Seq : (i : Interface) (t first : Term) (rest : List Term) → t.form ≡ form.Seq (first ∷ rest) → AreBuilt i (first ∷ rest) → IsBuilt i t
+unfolding within
+built-Seq i t first rest h a = record {
+  parts = parts-Seq t (first ∷ rest) h ∙ and_true (has_parts first) (list_all (λ c. c) (map has_parts rest)) a.0.parts (all_parts i rest a.1);
+  forms = forms-Seq t (first ∷ rest) h ∙ all_forms i (first ∷ rest) a;
+  uses = ap (within i) (plain-Seq t (first ∷ rest) h) ∙ uses_from i first rest a.0 a.1;
+}
 
 pub sequence_of : (t first : Term) (rest : List Term) → t.form ≡ form.Seq (first ∷ rest) → IsSequence t (first ∷ rest)
 sequence_of t first rest h = record {
   meaning = plain-Seq t (first ∷ rest) h;
-  fits = λ n a. fits-Seq n t first rest h a;
+  built = λ i a. built-Seq i t first rest h a;
 }
 
 pub sequence_long : (t : Term) (terms parts : List Term) → 1 ≤ length terms → parts ≡ terms → t.form ≡ form.Seq parts → IsSequence t terms
 sequence_long t [] parts l e h = absurd (omega arith)
 sequence_long t (first ∷ rest) parts l e h = sequence_of t first rest (h ∙ ap form.Seq e)
+
+-- an `int` stays the same when it is cast
+
+int_range32 : (n : ℤ) → int_le (lowest Int) n ≡ true → int_le n (highest Int) ≡ true → FitsSigned w32 n
+int_range32 (pos n) low high = record { sfits = search rules }
+int_range32 (negsuc n) low high = record { sfits = search rules }
+
+int_range64 : (n : ℤ) → FitsSigned w32 n → FitsSigned w64 n
+int_range64 n h = record { sfits = let a = h.sfits in omega arith }
+
+pub int_cast : (n m : ℤ) → is_int n ≡ true → m ≡ to_z w32 (of_z w32 n) → to_z w64 (of_z w64 m) ≡ n
+int_cast n m h e =
+    let b = both (int_le (lowest Int) n) (int_le n (highest Int)) h in
+    let f = int_range32 n b.0 b.1 in
+    let s = e ∙ to_z-of_z w32 n f in
+    ap (λ x. to_z w64 (of_z w64 x)) s ∙ to_z-of_z w64 n (int_range64 n f)

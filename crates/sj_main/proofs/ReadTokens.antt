@@ -1,16 +1,17 @@
 -- Facts on the tokens that bytes spell.
-use Rattle.std.proofs.Common.{◌≡◌, ℕ, ◌+◌, ◌≤◌, ◌<◌, Bool, true, false, cond, List, [], ◌∷◌, ◌++◌, length, drop, Option, Some, None, ap, refl, sym, ◌∙◌, append_assoc, append-nil, arith, ◌||◌, length-drop, subst}
+use Rattle.std.proofs.Common.{◌≡◌, ℕ, ◌+◌, ◌≤◌, ◌<◌, Bool, true, false, cond, List, [], ◌∷◌, ◌++◌, length, drop, Option, Some, None, ap, refl, sym, ◌∙◌, append_assoc, append-nil, arith, ◌&&◌, ◌==◌, length-drop, subst}
 use Rattle.std.specs.List.{prefix_len, take_while}
-use Rattle.java_values.specs.Names.{is_letter, is_between, is_word_byte, is_name}
+use Rattle.java_values.specs.Names.{is_word_byte, is_name}
 use Rattle.sj_main.specs.declared.token.Token.{Token}
-use Rattle.sj_main.specs.declared.token.Token.TheVariants.{Reserved, Name}
+use Rattle.sj_main.specs.declared.token.Token.TheVariants.{Reserved, Sign, Name}
 use Rattle.std.specs.Prelude.{codes}
 use Rattle.std.specs.Str.{bytes_eq}
 use Rattle.sj_main.specs.declared.reader.lexer.Placed.{Placed}
 use Rattle.sj_main.specs.declared.token.Word.{Word}
 use Rattle.sj_main.specs.declared.token.Word.TheVariants as word
+use Rattle.sj_main.specs.declared.token.Mark.TheVariants as mark
 use Rattle.sj_main.specs.ReadingTokens.{word_of, tokens_of, Lexed, Reaches, SpellsNothing}
-use Rattle.sj_main.specs.definitions.Tokens.{skip_white, next_token, with_rest, word_token, sign_token, Spells}
+use Rattle.sj_main.specs.definitions.Tokens.{skip_white, next_token, with_rest, word_token, run_token, sign_token, sign_front, Spells}
 
 -- the head that the bytes have
 none_of_nil : (bytes : List ℕ) → bytes ≡ [] → next_token bytes ≡ None
@@ -44,19 +45,27 @@ abbrev reserved_or : Option Word → Option Token → Option Token
 reserved_or (Some k) o = Some (Reserved k)
 reserved_or None o = o
 
-levels : (b1 b2 b3 b4 b5 b6 b7 b8 : Bool) (name : Option Token) → cond b1 (Some (Reserved word.System)) (cond b2 (Some (Reserved word.Interface)) (cond b3 (Some (Reserved word.Output)) (cond b4 (Some (Reserved word.Signal)) (cond b5 (Some (Reserved word.Emit)) (cond b6 (Some (Reserved word.Pause)) (cond b7 (Some (Reserved word.While)) (cond b8 (Some (Reserved word.True)) (name)))))))) ≡ reserved_or (cond b1 (Some word.System) (cond b2 (Some word.Interface) (cond b3 (Some word.Output) (cond b4 (Some word.Signal) (cond b5 (Some word.Emit) (cond b6 (Some word.Pause) (cond b7 (Some word.While) (cond b8 (Some word.True) (None))))))))) name
-levels true b2 b3 b4 b5 b6 b7 b8 name = refl
-levels false true b3 b4 b5 b6 b7 b8 name = refl
-levels false false true b4 b5 b6 b7 b8 name = refl
-levels false false false true b5 b6 b7 b8 name = refl
-levels false false false false true b6 b7 b8 name = refl
-levels false false false false false true b7 b8 name = refl
-levels false false false false false false true b8 name = refl
-levels false false false false false false false true name = refl
-levels false false false false false false false false name = refl
+levels : (b1 b2 b3 b4 b5 b6 b7 b8 b9 b10 b11 b12 : Bool) (name : Option Token)
+    → cond b1 (Some (Reserved word.System)) (cond b2 (Some (Reserved word.Interface)) (cond b3 (Some (Reserved word.Output)) (cond b4 (Some (Reserved word.Signal)) (cond b5 (Some (Reserved word.Int)) (cond b6 (Some (Reserved word.Channel)) (cond b7 (Some (Reserved word.Emit)) (cond b8 (Some (Reserved word.Pause)) (cond b9 (Some (Reserved word.While)) (cond b10 (Some (Reserved word.True)) (cond b11 (Some (Reserved word.Send)) (cond b12 (Some (Reserved word.Receive)) (name))))))))))))
+    ≡ reserved_or (cond b1 (Some word.System) (cond b2 (Some word.Interface) (cond b3 (Some word.Output) (cond b4 (Some word.Signal) (cond b5 (Some word.Int) (cond b6 (Some word.Channel) (cond b7 (Some word.Emit) (cond b8 (Some word.Pause) (cond b9 (Some word.While) (cond b10 (Some word.True) (cond b11 (Some word.Send) (cond b12 (Some word.Receive) (None))))))))))))) name
+levels true b2 b3 b4 b5 b6 b7 b8 b9 b10 b11 b12 name = refl
+levels false true b3 b4 b5 b6 b7 b8 b9 b10 b11 b12 name = refl
+levels false false true b4 b5 b6 b7 b8 b9 b10 b11 b12 name = refl
+levels false false false true b5 b6 b7 b8 b9 b10 b11 b12 name = refl
+levels false false false false true b6 b7 b8 b9 b10 b11 b12 name = refl
+levels false false false false false true b7 b8 b9 b10 b11 b12 name = refl
+levels false false false false false false true b8 b9 b10 b11 b12 name = refl
+levels false false false false false false false true b9 b10 b11 b12 name = refl
+levels false false false false false false false false true b10 b11 b12 name = refl
+levels false false false false false false false false false true b11 b12 name = refl
+levels false false false false false false false false false false true b12 name = refl
+levels false false false false false false false false false false false true name = refl
+levels false false false false false false false false false false false false name = refl
 
 token_of : (w : List ℕ) → word_token w ≡ reserved_or (word_of w) (cond (is_name w) (Some (Name w)) None)
-token_of w = levels (bytes_eq w (codes "system")) (bytes_eq w (codes "interface")) (bytes_eq w (codes "output")) (bytes_eq w (codes "signal")) (bytes_eq w (codes "emit")) (bytes_eq w (codes "pause")) (bytes_eq w (codes "while")) (bytes_eq w (codes "true")) (cond (is_name w) (Some (Name w)) None)
+token_of w =
+    levels (bytes_eq w (codes "system")) (bytes_eq w (codes "interface")) (bytes_eq w (codes "output")) (bytes_eq w (codes "signal")) (bytes_eq w (codes "int")) (bytes_eq w (codes "channel")) (bytes_eq w (codes "emit")) (bytes_eq w (codes "pause")) (bytes_eq w (codes "while")) (bytes_eq w (codes "true")) (bytes_eq w (codes "send")) (bytes_eq w (codes "receive"))
+    (cond (is_name w) (Some (Name w)) None)
 
 pub token_of_word : (w : List ℕ) (k : Word) → word_of w ≡ Some k → word_token w ≡ Some (Reserved k)
 token_of_word w k h = token_of w ∙ ap (λ x. reserved_or x (cond (is_name w) (Some (Name w)) None)) h
@@ -98,18 +107,27 @@ rest_of : (x : Option Token) (p rest : List ℕ) (t : Token) → with_rest x p �
 rest_of None p rest t e = cc
 rest_of (Some u) p rest t e = (one_next (Some (u, p)) u t p rest refl e).1
 
-length_rest : (l : Bool) (x y : Option Token) (p bs rest : List ℕ) (t : Token) → cond l (with_rest x p) (with_rest y bs) ≡ Some (t, rest) → (l ≡ true → length p ≤ length bs) → length rest ≤ length bs
-length_rest true x y p bs rest t e h = let k = h refl in omega (arith, ap length (rest_of x p rest t e))
-length_rest false x y p bs rest t e h = omega (arith, ap length (rest_of y bs rest t e))
+length_rest : (l : Bool) (x : Option Token) (y : Option (Token × List ℕ)) (p bs rest : List ℕ) (t : Token) → cond l (with_rest x p) y ≡ Some (t, rest) → (l ≡ true → length p ≤ length bs) → (y ≡ Some (t, rest) → length rest ≤ length bs)
+    → length rest ≤ length bs
+length_rest true x y p bs rest t e h g = let k = h refl in omega (arith, ap length (rest_of x p rest t e))
+length_rest false x y p bs rest t e h g = g e
 
-word_front : (b : ℕ) (bs : List ℕ) → is_letter b ≡ true → prefix_len is_word_byte (b ∷ bs) ≡ 1 + prefix_len is_word_byte bs
-word_front b bs h = ap (λ l. cond (l || is_between 48 57 b) (1 + prefix_len is_word_byte bs) 0) h
+two_signs : (a : Bool) (x : Option Token) (c : ℕ) (cs rest : List ℕ) (u t : Token) → cond a (Some (u, cs)) (with_rest x (c ∷ cs)) ≡ Some (t, rest) → length rest ≤ 1 + length cs
+two_signs true x c cs rest u t e = let h = (one_next (Some (u, cs)) u t cs rest refl e).1 in omega (arith, ap length h)
+two_signs false x c cs rest u t e = omega (arith, ap length (rest_of x (c ∷ cs) rest t e))
+
+length_sign : (b : ℕ) (bs rest : List ℕ) (t : Token) → sign_front b bs ≡ Some (t, rest) → length rest ≤ length bs
+length_sign b [] rest t e = omega (arith, ap length (rest_of (sign_token b) [] rest t e))
+length_sign b (c ∷ cs) rest t e = omega (arith, two_signs ((b == 62) && (c == 60)) (sign_token b) c cs rest (Sign mark.Beside) t e)
+
+run_front : (b : ℕ) (bs : List ℕ) → is_word_byte b ≡ true → prefix_len is_word_byte (b ∷ bs) ≡ 1 + prefix_len is_word_byte bs
+run_front b bs h = ap (λ l. cond l (1 + prefix_len is_word_byte bs) 0) h
 
 pub length_after : (bytes rest : List ℕ) (t : Token) → next_token bytes ≡ Some (t, rest) → length rest + 1 ≤ length bytes
 length_after [] rest t e = cc
 length_after (b ∷ bs) rest t e =
-    let k = length_rest (is_letter b) (word_token (take_while is_word_byte (b ∷ bs))) (sign_token b) (drop (prefix_len is_word_byte (b ∷ bs)) (b ∷ bs)) bs rest t e
-    (λ h. omega (arith, word_front b bs h, length-drop (prefix_len is_word_byte (b ∷ bs)) (b ∷ bs))) in
+    let k = length_rest (is_word_byte b) (run_token b (take_while is_word_byte (b ∷ bs))) (sign_front b bs) (drop (prefix_len is_word_byte (b ∷ bs)) (b ∷ bs)) bs rest t e
+    (λ h. omega (arith, run_front b bs h, length-drop (prefix_len is_word_byte (b ∷ bs)) (b ∷ bs))) (length_sign b bs rest t) in
     omega arith
 
 pub spelled_length : (bytes : List ℕ) (ts : List Token) → Spells bytes ts → length ts ≤ length bytes

@@ -1,14 +1,74 @@
 -- What the answers say.
-use Rattle.std.proofs.Common.{inr, ℕ, ◌≤◌, List, length, refl}
+use Rattle.std.proofs.Common.{inl, inr, ℕ, List, refl, ap}
 use Rattle.std.specs.Prelude.{Option, Some, None, IfSome, codes}
+use Rattle.kernel_terms.specs.Systems.{tables_of}
 use Rattle.sj_io.specs.Sinks.{TakesFront}
-use Rattle.sj_main.specs.Orders.{BeginsOrder}
-use Rattle.sj_main.specs.definitions.Accepted.{IsAccepted}
-use Rattle.sj_main.specs.definitions.Verdicts.{IsRefusal, Refused}
+use Rattle.tick_log.specs.RunText.{run_state, run_text}
+use Rattle.sj_main.specs.declared.commands.Turns.{Turns}
+use Rattle.sj_main.specs.declared.order.Made.{Made}
+use Rattle.sj_main.specs.declared.order.OrderError.TheVariants as error
+use Rattle.sj_main.specs.Words.{IsCommand}
+use Rattle.sj_main.specs.Orders.{IsMadeFrom, IsWhy, BeginsOrder, BeginsAnswer, TellsWeight, PrintsWeight}
+use Rattle.sj_main.specs.definitions.Commands.{IsOrder, IsNoCommand}
+use Rattle.sj_main.specs.definitions.Verdicts.{usage_line, misfit_line, overweight_line, IsRunOf, IsRefusal, Outcome, Done, Refused, NoCommand, Misfit, ReadFault, NoMemory, Overweight, IsOrderAnswer, ToNoCommand, ToOrder}
 
-later_refused : (told : Option (List ℕ)) → IfSome told (λ bytes. (length bytes ≤ 1048576) × (IsAccepted bytes → ⊥)) → IfSome told (λ bytes. IsRefusal bytes (codes "refused Later\n"))
-later_refused None h = tt
-later_refused (Some bytes) h = inr (h.0, h.1, refl)
+-- to the order of a file
 
-pub later_begins : (told : Option (List ℕ)) (turns : ℕ) (a b : Option (List ℕ)) → IfSome told (λ bytes. (length bytes ≤ 1048576) × (IsAccepted bytes → ⊥)) → TakesFront a b (codes "refused Later\n") → BeginsOrder told turns a b
-later_begins told turns a b h t = record { outcome = Refused; text = codes "refused Later\n"; is = later_refused told h; takes = t }
+begins : (told : Option (List ℕ)) (turns : Turns) (outcome : Outcome) (text : List ℕ) (a b : Option (List ℕ)) → IsOrderAnswer told turns outcome text → TakesFront a b text → BeginsOrder told turns a b
+begins told turns outcome text a b is takes = record { outcome = outcome; text = text; is = is; takes = takes }
+
+run_text_of : (told : Option (List ℕ)) (turns : Turns) (made : Made) → IfSome told (λ bytes. IsMadeFrom bytes turns made) → IfSome told (λ bytes. IsRunOf bytes turns (run_text (tables_of made.system) (run_state made.run)))
+run_text_of None turns made h = tt
+run_text_of (Some bytes) turns made h = record {
+  program = h.program;
+  source = h.source;
+  can = h.can;
+  run = run_state made.run;
+  last = h.last;
+  scheduled = h.scheduled;
+  whole = h.whole;
+  is = ap (λ t. run_text t (run_state made.run)) h.tables;
+}
+
+pub run_begins : (told : Option (List ℕ)) (turns : Turns) (made : Made) (a b : Option (List ℕ)) → IfSome told (λ bytes. IsMadeFrom bytes turns made) → TakesFront a b (run_text (tables_of made.system) (run_state made.run)) → BeginsOrder told turns a b
+run_begins told turns made a b h t = begins told turns Done (run_text (tables_of made.system) (run_state made.run)) a b (run_text_of told turns made h) t
+
+pub read_fault_begins : (told : Option (List ℕ)) (turns : Turns) (a b : Option (List ℕ)) → TakesFront a b (codes "read fault\n") → BeginsOrder told turns a b
+read_fault_begins told turns a b t = begins told turns ReadFault (codes "read fault\n") a b refl t
+
+pub no_memory_begins : (told : Option (List ℕ)) (turns : Turns) (a b : Option (List ℕ)) → TakesFront a b (codes "no memory\n") → BeginsOrder told turns a b
+no_memory_begins told turns a b t = begins told turns NoMemory (codes "no memory\n") a b refl t
+
+size_refused : (told : Option (List ℕ)) (turns : Turns) → IfSome told (λ bytes. IsWhy bytes turns error.Size) → IfSome told (λ bytes. IsRefusal bytes (codes "refused Size\n"))
+size_refused None turns h = tt
+size_refused (Some bytes) turns h = inl (h, refl)
+
+pub size_begins : (told : Option (List ℕ)) (turns : Turns) (a b : Option (List ℕ)) → IfSome told (λ bytes. IsWhy bytes turns error.Size) → TakesFront a b (codes "refused Size\n") → BeginsOrder told turns a b
+size_begins told turns a b h t = begins told turns Refused (codes "refused Size\n") a b (size_refused told turns h) t
+
+later_refused : (told : Option (List ℕ)) (turns : Turns) → IfSome told (λ bytes. IsWhy bytes turns error.NotBuiltYet) → IfSome told (λ bytes. IsRefusal bytes (codes "refused Later\n"))
+later_refused None turns h = tt
+later_refused (Some bytes) turns h = inr (h.0, h.1, refl)
+
+pub later_begins : (told : Option (List ℕ)) (turns : Turns) (a b : Option (List ℕ)) → IfSome told (λ bytes. IsWhy bytes turns error.NotBuiltYet) → TakesFront a b (codes "refused Later\n") → BeginsOrder told turns a b
+later_begins told turns a b h t = begins told turns Refused (codes "refused Later\n") a b (later_refused told turns h) t
+
+pub misfit_begins : (told : Option (List ℕ)) (turns : Turns) (a b : Option (List ℕ)) → IfSome told (λ bytes. IsWhy bytes turns error.DomainsDoNotFit) → TakesFront a b misfit_line → BeginsOrder told turns a b
+misfit_begins told turns a b h t = begins told turns Misfit misfit_line a b (h, refl) t
+
+pub weight_begins : (told : Option (List ℕ)) (turns : Turns) (weight : ℕ) (a b : Option (List ℕ)) → IfSome told (λ bytes. IsWhy bytes turns (error.OverWeight weight)) → TakesFront a b (overweight_line weight) → BeginsOrder told turns a b
+weight_begins told turns weight a b h t = begins told turns (Overweight weight) (overweight_line weight) a b (h, refl) t
+
+-- to the words
+
+pub order_begins : (words : List (List ℕ)) (told : List ℕ → Option (List ℕ)) (file : List ℕ) (turns : Turns) (a b : Option (List ℕ)) → IsOrder words file turns → BeginsOrder (told file) turns a b → BeginsAnswer words told a b
+order_begins words told file turns a b o h = record { outcome = h.outcome; text = h.text; is = ToOrder file turns o h.is; takes = h.takes }
+
+pub order_weighs : (words : List (List ℕ)) (told : List ℕ → Option (List ℕ)) (file : List ℕ) (turns : Turns) (a b : Option (List ℕ)) → IsOrder words file turns → TellsWeight (told file) turns a b → PrintsWeight words told a b
+order_weighs words told file turns a b o h = record { weight = h.weight; orders = record { file = file; turns = turns; command = o; holds = h.is }; takes = h.takes }
+
+pub usage_begins : (words : List (List ℕ)) (told : List ℕ → Option (List ℕ)) (a b : Option (List ℕ)) → IsNoCommand words → TakesFront a b usage_line → BeginsAnswer words told a b
+usage_begins words told a b n t = record { outcome = NoCommand; text = usage_line; is = ToNoCommand n refl refl; takes = t }
+
+pub want_begins : (words : List (List ℕ)) (told : List ℕ → Option (List ℕ)) (a b : Option (List ℕ)) → IsCommand words → TakesFront a b (codes "no memory\n") → BeginsAnswer words told a b
+want_begins words told a b c t = record { outcome = NoMemory; text = codes "no memory\n"; is = ToOrder c.file c.turns c.command refl; takes = t }

@@ -1,12 +1,13 @@
 -- Four words.
-use Rattle.std.proofs.Common.{◌≡◌, ℕ, Bool, true, false, not, List, [], ◌∷◌, length, get_or, arith, refl, sym, ◌∙◌}
-use Rattle.std.specs.Prelude.{string_bytes, codes}
+use Rattle.std.proofs.Common.{◌≡◌, ℕ, Bool, true, false, not, List, [], ◌∷◌, length, get_or, arith, refl, sym, ◌∙◌, subst}
+use Rattle.std.specs.Prelude.{string_bytes, codes, Result, Ok, Err, OnErr}
 use Rattle.std.specs.declared.alloc.Global.{Global}
 use Rattle.std.specs.declared.string.String.{String}
 use Rattle.std.specs.Str.{bytes_eq}
 use Rattle.std.proofs.lemmas.Slice.Eq.{bytes_eq-Decides}
-use Rattle.sj_main.specs.Words.{word_list}
-use Rattle.sj_main.specs.definitions.Commands.{IsOrder}
+use Rattle.sj_main.specs.Words.{word_list, NoTurns, HasTurns, AreOrderWords, NoOrderWords, IsCommand}
+use Rattle.sj_main.specs.declared.commands.Turns.{Turns}
+use Rattle.sj_main.specs.definitions.Commands.{IsTurns, IsOrder, IsNoCommand}
 
 pub four_words : (words : List (String Global)) (a b c d : String Global) → length words ≡ 4 → a ≡ get_or words 0 a → b ≡ get_or words 1 b → c ≡ get_or words 2 c → d ≡ get_or words 3 d
     → word_list words ≡ string_bytes a ∷ string_bytes b ∷ string_bytes c ∷ string_bytes d ∷ []
@@ -23,5 +24,23 @@ same_word xs ys r e f = (bytes_eq-Decides xs ys).0 (undone (bytes_eq xs ys) (sym
   undone true h = refl
   undone false h = cc
 
-pub third_word : (words : List (List ℕ)) (a b c d file : List ℕ) (turns : ℕ) → words ≡ a ∷ b ∷ c ∷ d ∷ [] → (o : IsOrder words file turns) → o.word ≡ c
-third_word words a b c d file turns h o = let e : a ∷ b ∷ c ∷ d ∷ [] ≡ codes "order" ∷ file ∷ o.word ∷ codes "-" ∷ [] = sym h ∙ o.is in cc
+third_word : (words : List (List ℕ)) (a b file turns : List ℕ) → AreOrderWords words a b → words ≡ codes "order" ∷ file ∷ turns ∷ codes "-" ∷ [] → turns ≡ b
+third_word words a b file turns w h = let e = w.are in cc
+
+pub order_read : (words : List (List ℕ)) (file word : List ℕ) (turns : Turns) → AreOrderWords words file word → IsTurns word turns → IsOrder words file turns
+order_read words file word turns w t = record { word = word; is = w.are; takes = t }
+
+pub no_order : (words : List (List ℕ)) → NoOrderWords words → IsNoCommand words
+no_order words n = λ file turns o. n.none file o.word o.is
+
+pub no_order_turns : (words : List (List ℕ)) (file word : List ℕ) → AreOrderWords words file word → NoTurns word → IsNoCommand words
+no_order_turns words file word w n = λ f turns o. n.none turns (subst (λ x. IsTurns x turns) (third_word words file word f o.word w o.is) o.takes)
+
+pub command_read : (words : List (List ℕ)) (file word : List ℕ) → AreOrderWords words file word → HasTurns word → IsCommand words
+command_read words file word w h = record { file = file; turns = h.turns; command = order_read words file word h.turns w h.are }
+
+pub on_error : {X E P : Type 0} (r : Result X E) → P → OnErr r P
+on_error (Ok x) p = tt
+on_error (Err e) p = p
+
+pub ruleset word_steps = (order_read, no_order, no_order_turns, command_read)

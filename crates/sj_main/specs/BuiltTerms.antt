@@ -1,17 +1,32 @@
--- Terms of the built forms alone, over so many pure signals.
-use Rattle.std.specs.Prelude.{ℕ, Bool, true, false, ◌&&◌, nat_lt, None}
+-- Terms of the built forms alone, over so many signals and channels.
+use Rattle.std.specs.Prelude.{◌≡◌, ℕ, ℤ, Bool, true, ◌&&◌, nat_lt, int_le, List, [], ◌∷◌, length}
+use Rattle.java_values.specs.declared.kind.Kind.TheVariants.{Int}
+use Rattle.java_values.specs.Kinds.{lowest, highest}
 use Rattle.kernel_terms.specs.declared.term.Term.{Term}
-use Rattle.kernel_terms.specs.Statements.{Stmt, Nothing, Pause, Emit, Seq, Loop, statement}
 use Rattle.kernel_terms.specs.WellFormed.{has_parts}
+use Rattle.domain_core.specs.BuiltForms.{Plain, Nothing, Pause, Emit, Seq, Loop, Send, Receive, plain, is_built}
+use Rattle.sj_main.specs.definitions.Programs.{Interface}
 
--- each emission names one of so many signals
-abbrev pub is_built : ℕ → Stmt → Bool
-is_built signals Nothing = true
-is_built signals Pause = true
-is_built signals (Emit s None) = nat_lt s signals
-is_built signals (Seq p q) = is_built signals p && is_built signals q
-is_built signals (Loop p) = is_built signals p
-is_built signals _ = false
+abbrev pub is_int : ℤ → Bool
+is_int n = int_le (lowest Int) n && int_le n (highest Int)
 
-abbrev pub fits_tables : ℕ → Term → Bool
-fits_tables signals t = has_parts t && is_built signals (statement t)
+-- each emission names one of so many signals, each send and receive one of so many channels, and each number
+-- that is sent is an `int`
+abbrev pub is_within : ℕ → ℕ → Plain → Bool
+is_within signals channels Nothing = true
+is_within signals channels Pause = true
+is_within signals channels (Emit s) = nat_lt s signals
+is_within signals channels (Seq p q) = is_within signals channels p && is_within signals channels q
+is_within signals channels (Loop p) = is_within signals channels p
+is_within signals channels (Send c n) = nat_lt c channels && is_int n
+is_within signals channels (Receive c) = nat_lt c channels
+
+-- the term has built forms alone, and names signals and channels of the interface
+pub record IsBuilt (i : Interface) (t : Term) : Type 0 where
+  pub parts : has_parts t ≡ true
+  pub forms : is_built t ≡ true
+  pub uses : is_within (length i.signals) (length i.channels) (plain t) ≡ true
+
+abbrev pub AreBuilt : Interface → List Term → Type 0
+AreBuilt i [] = Unit {0}
+AreBuilt i (t ∷ ts) = IsBuilt i t × AreBuilt i ts

@@ -1,31 +1,52 @@
--- What the names of the signals are.
-use Rattle.std.specs.Prelude.{◌≡◌, ℕ, ◌≤◌, ◌<◌, true, List, [], ◌∷◌, ◌++◌, length, map}
-use Rattle.std.specs.List.{list_any}
+-- What the names of the ports are.
+use Rattle.std.specs.Prelude.{◌≡◌, ℕ, ◌≤◌, ◌<◌, Bool, true, false, ◌||◌, List, [], ◌∷◌, ◌++◌, length, map}
+use Rattle.std.specs.List.{list_any, position_or_len}
 use Rattle.std.specs.Str.{bytes_eq}
-use Rattle.java_values.specs.Names.{are_distinct}
-use Rattle.kernel_terms.specs.Limits.{most_signals}
+use Rattle.sj_main.specs.declared.reader.names.NameSet.{NameSet}
 use Rattle.sj_main.specs.declared.reader.names.Names.{Names}
-use Rattle.sj_main.specs.definitions.Accepted.{signal_of}
+use Rattle.sj_main.specs.declared.reader.names.PortKind.{PortKind}
+use Rattle.sj_main.specs.declared.reader.names.PortKind.TheVariants as kind
+use Rattle.sj_main.specs.definitions.Grammar.{Port, SignalPort, ChannelPort}
+use Rattle.sj_main.specs.definitions.Programs.{Interface}
 
-abbrev pub names_of : Names → List (List ℕ)
-names_of names = map (λ name. name.items) names.set.keys
+abbrev pub set_names : NameSet → List (List ℕ)
+set_names names = map (λ name. name.items) names.set.keys
 
--- they differ and are few enough
-pub record AreNames (names : List (List ℕ)) : Type 0 where
-  pub distinct : are_distinct names ≡ true
-  pub few : length names ≤ most_signals
+abbrev pub names_of : Names → Interface
+names_of names = record { signals = set_names names.signals; channels = set_names names.channels }
 
--- the name is one of them, and this is the number of its signal
+-- they are no more than the bytes of a source
+pub record AreFew (names : List (List ℕ)) : Type 0 where
+  pub few : length names ≤ 1048576
+
+pub record IsSmall (i : Interface) : Type 0 where
+  pub signals : AreFew i.signals
+  pub channels : AreFew i.channels
+
+-- the name is one of them, and this is its place
 pub record IsPlace (names : List (List ℕ)) (name : List ℕ) (place : ℕ) : Type 0 where
   pub declared : list_any (bytes_eq name) names ≡ true
-  pub number : place ≡ signal_of names name
+  pub number : place ≡ position_or_len (bytes_eq name) names
   pub within : place < length names
 
--- the name is new, and there is room for it
-pub record Declared (old new : List (List ℕ)) (name : List ℕ) : Type 0 where
+-- the name is new
+pub record IsAdded (old new : List (List ℕ)) (name : List ℕ) : Type 0 where
   pub names : new ≡ old ++ name ∷ []
-  pub good : AreNames new
+  pub free : list_any (bytes_eq name) old ≡ false
 
--- the name stands in no list of names after these
-pub record IsRefused (names : List (List ℕ)) (name : List ℕ) : Type 0 where
-  pub none : (more : List (List ℕ)) → AreNames (names ++ name ∷ more) → ⊥
+abbrev pub port_of : PortKind → List ℕ → Port
+port_of kind.Signal name = SignalPort name
+port_of kind.Channel name = ChannelPort name
+
+abbrev pub with_port : Interface → Port → Interface
+with_port i (SignalPort name) = record { signals = i.signals ++ name ∷ []; channels = i.channels }
+with_port i (ChannelPort name) = record { signals = i.signals; channels = i.channels ++ name ∷ [] }
+
+-- a port has this name
+abbrev pub is_taken : Interface → List ℕ → Bool
+is_taken i name = list_any (bytes_eq name) i.signals || list_any (bytes_eq name) i.channels
+
+-- the interface has one port more, whose name is new
+pub record Declared (old new : Interface) (port : Port) (name : List ℕ) : Type 0 where
+  pub interface : new ≡ with_port old port
+  pub free : is_taken old name ≡ false

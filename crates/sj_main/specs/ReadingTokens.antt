@@ -5,7 +5,7 @@ use Rattle.sj_main.specs.declared.token.Token.{Token}
 use Rattle.sj_main.specs.declared.token.Word.{Word}
 use Rattle.sj_main.specs.declared.token.Word.TheVariants as word
 use Rattle.sj_main.specs.declared.reader.lexer.Placed.{Placed}
-use Rattle.sj_main.specs.definitions.Tokens.{Spells, skip_white, with_rest, word_token}
+use Rattle.sj_main.specs.definitions.Tokens.{Spells, skip_white, with_rest, run_token}
 use Rattle.std.specs.List.{prefix_len, take_while}
 use Rattle.java_values.specs.Names.{is_word_byte}
 
@@ -24,14 +24,18 @@ word_of w =
     (cond (bytes_eq w (codes "interface")) (Some word.Interface)
     (cond (bytes_eq w (codes "output")) (Some word.Output)
     (cond (bytes_eq w (codes "signal")) (Some word.Signal)
+    (cond (bytes_eq w (codes "int")) (Some word.Int)
+    (cond (bytes_eq w (codes "channel")) (Some word.Channel)
     (cond (bytes_eq w (codes "emit")) (Some word.Emit)
     (cond (bytes_eq w (codes "pause")) (Some word.Pause)
     (cond (bytes_eq w (codes "while")) (Some word.While)
-    (cond (bytes_eq w (codes "true")) (Some word.True) None)))))))
+    (cond (bytes_eq w (codes "true")) (Some word.True)
+    (cond (bytes_eq w (codes "send")) (Some word.Send)
+    (cond (bytes_eq w (codes "receive")) (Some word.Receive) None)))))))))))
 
--- the word at the head of the bytes, and the bytes after it
-abbrev pub word_front : List ℕ → Option (Token × List ℕ)
-word_front bytes = with_rest (word_token (take_while is_word_byte bytes)) (drop (prefix_len is_word_byte bytes) bytes)
+-- the word or the number at the head of the bytes, by its first byte, and the bytes after it
+abbrev pub run_front : ℕ → List ℕ → Option (Token × List ℕ)
+run_front first bytes = with_rest (run_token first (take_while is_word_byte bytes)) (drop (prefix_len is_word_byte bytes) bytes)
 
 -- The tokens so far and any that the rest spells are the source's, and the source spells no others.
 pub record Reaches (source : List ℕ) (done : List Token) (rest : List ℕ) : Type 0 where

@@ -1,5 +1,4 @@
 -- What the program promises is said in these terms.
-pub mod Plain
 pub mod Trees
 pub mod Weight
 pub mod Tokens
@@ -7,4 +6,5 @@ pub mod Grammar
 pub mod Programs
 pub mod Accepted
 pub mod Commands
+pub mod RunWeight
 pub mod Verdicts

@@ -1,18 +1,17 @@
 //! The command: compiles a program to equations over wires, and runs it.
 #![tactic(auto)]
 
-mod builder;
-mod built;
+mod accept;
 mod commands;
 mod order;
 mod reader;
 mod rows;
-mod run;
 mod serve;
 mod shape;
 #[cfg(test)]
 mod tests;
 mod token;
+mod turns;
 mod weight;
 
 use serve::{answer, serve_plain};

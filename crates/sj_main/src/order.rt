@@ -1,25 +1,22 @@
 // The run of the turns, from the file on.
 
-ghost use Rattle.std.specs.Prelude.{◌≡◌, ◌≤◌, ◌<◌, length, map, IfOk, IfSome, IsErrOf, true, false};
-ghost use Rattle.sj_main.specs.definitions.Plain.{plain};
-ghost use Rattle.kernel_terms.specs.Systems.{tables_of, domains_of};
-ghost use Rattle.sj_main.specs.definitions.Plain.{LoopsWait};
+ghost use Rattle.std.specs.Prelude.{◌≡◌, ◌<◌, ℕ, length, IfErr, IfOk, IfSome, IsErrOf};
+ghost use Rattle.kernel_terms.specs.Systems.{domains_of};
 ghost use Rattle.sj_io.specs.Causes.{Rose};
 ghost use Rattle.tick_log.specs.Fits.{FitsSystem};
 ghost use Rattle.tick_log.specs.RunText.{run_state};
-ghost use Rattle.sj_main.specs.Reading.{IsReadAs};
-ghost use Rattle.sj_main.specs.Running.{CanBuild};
-ghost use Rattle.sj_main.specs.Rules.{KeepsStaticRules, Accepts, RunsAs};
-ghost use Rattle.sj_main.specs.definitions.Accepted.{IsAccepted};
-ghost use Rattle.sj_main.specs.definitions.Commands.{most_turns};
-ghost use Rattle.sj_main.specs.Orders.{IsMadeFrom};
+ghost use Rattle.domain_core.specs.Compiling.{CanCompile};
+ghost use Rattle.gals_core.specs.OrderPlans.{AreDomainsOf};
+ghost use Rattle.sj_main.specs.Words.{AreFew};
+ghost use Rattle.sj_main.specs.Orders.{IsMadeFrom, IsWhy, RunsTurns, IsWhyNoRun};
 
-use crate::reader::read_source;
-use crate::run::run;
-use crate::shape::loops_wait;
-use crate::weight::weight;
+use crate::accept::accept;
+use crate::commands::Turns;
+use crate::turns::{budgets, fit, run_weight, schedule};
+use domain_core::{CompileError, Domain, compile};
+use gals_core::{OrderPlan, run_order};
 use java_values::NoMemory;
-use kernel_terms::{System, Term};
+use kernel_terms::System;
 use sj_io::{Files, ReadError, read_all};
 use std::alloc::Global;
 use thiserror::Error;
@@ -28,8 +25,8 @@ use tick_log::Run;
 /// How many bytes a source may have.
 const MOST_SOURCE_BYTES: usize = 1_048_576;
 
-/// How much a domain may weigh.
-const MOST_WEIGHT: u64 = 100_000;
+/// How much a run may weigh.
+const MOST_RUN_WEIGHT: u64 = 4_000_000;
 
 /// A system and a run of it.
 #[derive(Drop)]
@@ -50,84 +47,87 @@ pub enum OrderError {
     /// The source has a form that isn't built yet, or breaks a rule.
     #[error("the source is not accepted")]
     NotBuiltYet,
+    /// A turn is one of no domain of the source.
+    #[error("a turn is one of no domain")]
+    DomainsDoNotFit,
+    /// The run would have this weight, which is above 4,000,000.
+    #[error("the run weight {0} is above the limit")]
+    OverWeight(u64),
     /// An allocation was refused.
     #[error("no memory")]
     NoMemory,
 }
 
-// Whether the statement keeps the rules on loops and weight.
-fn keeps_static_rules(term: &Term) -> bool
-    ensures kept { result ≡ true → KeepsStaticRules (plain term.now) }
-    ensures broken { result ≡ false → KeepsStaticRules (plain term.now) → ⊥ }
-{
-    loops_wait(term) && weight(term) <= MOST_WEIGHT
-}
+impl From<NoMemory> for OrderError {
+    ghost use Rattle.sj_main.specs.declared.order.OrderError.TheVariants as error;
+    ghost use Rattle.std.specs.Prelude.{◌≡◌};
 
-// What a reading tells of the domain's statement.
-#[tactic(auto, using(crate::proofs::Readings::reading_facts))]
-fn tell_domain(bytes: &[u8], system: &System, terms: &[Term])
-    requires read { IsReadAs bytes.now system.now }
-    requires terms { terms.now ≡ domains_of system.now }
-    requires size { length bytes.now ≤ 1048576 }
-    ensures one { length terms.now ≡ 1 }
-    ensures signals { length (tables_of system.now).signals ≤ 1024 }
-{}
+    ghost from_gives = { λ _ e. e ≡ error.NoMemory };
 
-// The system of the bytes, where they are an accepted source.
-#[tactic(auto, using(crate::proofs::Readings::reading_facts))]
-fn accepted(alloc: Global, bytes: &[u8]) -> Result<System, OrderError>
-    requires { length bytes.now ≤ 1048576 }
-    ensures accepts { IfOk result (λ system. Accepts bytes.now system) }
-    ensures later { IsErrOf result OrderError.NotBuiltYet → IsAccepted bytes.now → ⊥ }
-    ensures only { (IsErrOf result OrderError.Fault → ⊥) × (IsErrOf result OrderError.Size → ⊥) }
-{
-    let system = match read_source(alloc, bytes) {
-        Ok(Some(system)) => system,
-        Ok(None) => return Err(OrderError::NotBuiltYet),
-        Err(NoMemory) => return Err(OrderError::NoMemory),
-    };
-    let terms = system.domains();
-    tell_domain(bytes, &system, terms);
-    if keeps_static_rules(&terms[0]) {
-        Ok(system)
-    } else {
-        Err(OrderError::NotBuiltYet)
+    fn from(_error: NoMemory) -> OrderError {
+        OrderError::NoMemory
     }
 }
 
-// The run of an accepted system.
-#[tactic(auto, using(crate::proofs::Readings::reading_facts))]
-fn run_of(alloc: Global, bytes: &[u8], system: &System, turns: u32) -> Result<Run, NoMemory>
-    requires accepts { Accepts bytes.now system.now }
-    requires size { length bytes.now ≤ 1048576 }
-    requires turns { turns ≤ most_turns }
-    ensures runs { IfOk result (λ run. RunsAs bytes.now system.now turns (run_state run)) }
-    ensures fits { IfOk result (λ run. FitsSystem system.now (run_state run)) }
+// How many domains a system has.
+fn domain_count(system: &System) -> u32
+    ensures { result ≡ length (domains_of system.now) }
 {
-    let terms = system.domains();
-    tell_domain(bytes, system, terms);
-    let signals = system.tables().signals.len() as u32;
-    let mut domains = Vec::with_capacity(alloc, 1)?;
-    domains.push(run(alloc, &terms[0], signals, turns)?)?;
-    Ok(Run {
-        domains,
-        channels: Vec::new(alloc),
-    })
+    system.domains().len() as u32
 }
 
-/// Reads the file's source, and makes the run of so many turns of its program.
+// The domains of a system before their first ticks, by rising number.
+#[tactic(auto, using(crate::proofs::OrderLemmas::compiling))]
+fn compile_all(alloc: Global, system: &System) -> Result<Vec<Domain>, NoMemory>
+    requires { (d : ℕ) → d < length (domains_of system.now) → CanCompile system.now d }
+    ensures { IfOk result (λ domains. AreDomainsOf system.now domains.items) }
+{
+    let count = domain_count(system);
+    let mut domains = Vec::with_capacity(alloc, count as usize)?;
+    for number in 0..count {
+        match compile(alloc, system, number) {
+            Ok(domain) => domains.push(domain)?,
+            Err(CompileError::NoMemory) => return Err(NoMemory),
+        }
+    }
+    Ok(domains)
+}
+
+// The run of the turns of a system, whose memory is taken before its first tick.
+#[tactic(auto, using(crate::proofs::OrderLemmas::running))]
+fn run_of(alloc: Global, system: &System, turns: &Turns) -> Result<Run, OrderError>
+    requires can { (d : ℕ) → d < length (domains_of system.now) → CanCompile system.now d }
+    requires few { AreFew turns.now }
+    ensures runs { IfOk result (λ run. RunsTurns system.now turns.now (run_state run)) }
+    ensures why { IfErr result (λ e. IsWhyNoRun system.now turns.now e) }
+{
+    let count = domain_count(system);
+    if !fit(turns, count) {
+        return Err(OrderError::DomainsDoNotFit);
+    }
+    let budgets = budgets(alloc, turns, count)?;
+    let weight = run_weight(system, &budgets);
+    if weight > MOST_RUN_WEIGHT {
+        return Err(OrderError::OverWeight(weight));
+    }
+    let domains = compile_all(alloc, system)?;
+    let plan = OrderPlan::open(alloc, system, domains, &budgets)?;
+    let list = schedule(alloc, turns, count)?;
+    Ok(run_order(system, plan, &list))
+}
+
+/// Reads the file's source, and makes the run of the turns of its program.
 pub fn order<F: Files>(
     alloc: Global,
     file: &str,
-    turns: u32,
+    turns: &Turns,
     files: &mut F,
 ) -> Result<Made, OrderError>
-    requires { turns ≤ most_turns }
-    ensures made { IfOk result (λ made. IfSome (F.told files.old file.now) (λ bytes. IsMadeFrom bytes turns made)) }
+    requires { AreFew turns.now }
+    ensures made { IfOk result (λ made. IfSome (F.told files.old file.now) (λ bytes. IsMadeFrom bytes turns.now made)) }
     ensures fits { IfOk result (λ made. FitsSystem made.system (run_state made.run)) }
     ensures fault { IsErrOf result OrderError.Fault → Rose (F.faults files.old file.now) (F.faults files.new file.now) }
-    ensures size { IsErrOf result OrderError.Size → IfSome (F.told files.old file.now) (λ bytes. 1048576 < length bytes) }
-    ensures later { IsErrOf result OrderError.NotBuiltYet → IfSome (F.told files.old file.now) (λ bytes. (length bytes ≤ 1048576) × (IsAccepted bytes → ⊥)) }
+    ensures why { IfErr result (λ e. IfSome (F.told files.old file.now) (λ bytes. IsWhy bytes turns.now e)) }
 {
     let bytes = match read_all(alloc, files, file, MOST_SOURCE_BYTES) {
         Ok(bytes) => bytes,
@@ -135,9 +135,9 @@ pub fn order<F: Files>(
         Err(ReadError::TooBig) => return Err(OrderError::Size),
         Err(ReadError::NoMemory) => return Err(OrderError::NoMemory),
     };
-    let system = accepted(alloc, &bytes)?;
-    match run_of(alloc, &bytes, &system, turns) {
-        Ok(run) => Ok(Made { system, run }),
-        Err(NoMemory) => Err(OrderError::NoMemory),
-    }
+    let Some(system) = accept(alloc, &bytes)? else {
+        return Err(OrderError::NotBuiltYet);
+    };
+    let run = run_of(alloc, &system, turns)?;
+    Ok(Made { system, run })
 }

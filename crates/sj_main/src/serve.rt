@@ -1,15 +1,18 @@
 // The top call.
 
-ghost use Rattle.std.specs.Prelude.{◌≡◌, ◌≢◌, ◌⊎◌, ◌≤◌, ℕ, List, IfSome, codes};
+ghost use Rattle.std.specs.Prelude.{◌≡◌, ◌≢◌, ◌⊎◌, ◌≤◌, true, List, ℕ, IfSome, codes};
 ghost use Rattle.sj_io.specs.Causes.{Rose};
 ghost use Rattle.sj_io.specs.Sinks.{TakesMore, TakesFront};
-ghost use Rattle.sj_main.specs.Words.{word_list};
-ghost use Rattle.sj_main.specs.Orders.{PrintsRun, PrintsRefusal, FailsToRead, BeginsAnswer, BeginsOrder};
-ghost use Rattle.sj_main.specs.definitions.Commands.{most_turns, IsNoCommand};
-ghost use Rattle.sj_main.specs.definitions.Verdicts.{usage_line, OrdersSuch};
+ghost use Rattle.tick_log.specs.Puts.{Puts};
+ghost use Rattle.sj_main.specs.Words.{word_list, AreFew, IsCommand};
+ghost use Rattle.sj_main.specs.Orders.{PrintsRun, PrintsRefusal, PrintsWeight, FailsToRead, BeginsAnswer, BeginsOrder, TellsWeight};
+ghost use Rattle.sj_main.specs.definitions.Commands.{IsNoCommand};
+ghost use Rattle.sj_main.specs.definitions.Verdicts.{usage_line, misfit_line, overweight_line, IsMisfit, OrdersSuch};
 
-use crate::commands::read_order;
+use crate::commands::{Turns, read_order};
 use crate::order::{OrderError, order};
+use itoa::Buffer;
+use java_values::NoMemory;
 use sj_io::{Files, Sink, write_all};
 use std::alloc::Global;
 use tick_log::print;
@@ -31,21 +34,54 @@ pub fn answer<K: Sink>(out: &mut K, line: &[u8], status: u8) -> u8
     }
 }
 
-// Runs the order of a file and so many turns.
+// Writes the bytes, unless a write before them failed.
+fn put<K: Sink>(out: &mut K, ok: bool, bytes: &[u8]) -> bool
+    ensures { Puts ok result (K.taken out.old) (K.taken out.new) (K.faults out.old) (K.faults out.new) bytes.now }
+{
+    if ok {
+        write_all(out, bytes).is_ok()
+    } else {
+        false
+    }
+}
+
+// Writes the line of a run weight above the limit.
+fn put_weight<K: Sink>(out: &mut K, weight: u64) -> bool
+    ensures { Puts true result (K.taken out.old) (K.taken out.new) (K.faults out.old) (K.faults out.new) (overweight_line weight) }
+{
+    let mut buffer = Buffer::new();
+    let begun = put(out, true, b"over the run weight ");
+    let told = put(out, begun, buffer.format(weight).as_bytes());
+    put(out, told, b"\n")
+}
+
+// Writes the line of a run weight above the limit, and answers its status, or 4 where the sink fails.
+fn answer_weight<K: Sink>(out: &mut K, weight: u64) -> u8
+    ensures status { (result ≡ 7) ⊎ (result ≡ 4) }
+    ensures ok { result ≡ 7 → TakesMore (K.taken out.old) (K.taken out.new) (overweight_line weight) }
+    ensures fault { result ≡ 4 → Rose (K.faults out.old) (K.faults out.new) }
+    ensures front { result ≡ 4 → TakesFront (K.taken out.old) (K.taken out.new) (overweight_line weight) }
+{
+    if put_weight(out, weight) { 7 } else { 4 }
+}
+
+// Runs the order of a file and turns.
 fn serve_order<F: Files, K: Sink>(
     alloc: Global,
     file: &str,
-    turns: u32,
+    turns: &Turns,
     files: &mut F,
     out: &mut K,
 ) -> u8
-    requires { turns ≤ most_turns }
-    ensures statuses { (result ≡ 0) ⊎ (result ≡ 1) ⊎ (result ≡ 3) ⊎ (result ≡ 4) ⊎ (result ≡ 5) }
-    ensures done { result ≡ 0 → IfSome (F.told files.old file.now) (λ bytes. PrintsRun bytes turns (K.taken out.old) (K.taken out.new)) }
+    requires { AreFew turns.now }
+    ensures statuses { (result ≤ 5) ⊎ (result ≡ 7) }
+    ensures done { result ≡ 0 → IfSome (F.told files.old file.now) (λ bytes. PrintsRun bytes turns.now (K.taken out.old) (K.taken out.new)) }
     ensures refused { result ≡ 1 → IfSome (F.told files.old file.now) (λ bytes. PrintsRefusal bytes (K.taken out.old) (K.taken out.new)) }
+    ensures misfit { result ≡ 2 → IfSome (F.told files.old file.now) (λ bytes. IsMisfit bytes turns.now) × TakesMore (K.taken out.old) (K.taken out.new) misfit_line }
     ensures read_fault { result ≡ 3 → Rose (F.faults files.old file.now) (F.faults files.new file.now) × TakesMore (K.taken out.old) (K.taken out.new) (codes "read fault\n") }
-    ensures write_fault { result ≡ 4 → Rose (K.faults out.old) (K.faults out.new) × BeginsOrder (F.told files.old file.now) turns (K.taken out.old) (K.taken out.new) }
+    ensures write_fault { result ≡ 4 → Rose (K.faults out.old) (K.faults out.new) × BeginsOrder (F.told files.old file.now) turns.now (K.taken out.old) (K.taken out.new) }
     ensures no_memory { result ≡ 5 → TakesMore (K.taken out.old) (K.taken out.new) (codes "no memory\n") }
+    ensures weight { result ≡ 7 → TellsWeight (F.told files.old file.now) turns.now (K.taken out.old) (K.taken out.new) }
 {
     match order(alloc, file, turns, files) {
         Ok(made) => match print(&made.run, &made.system, out) {
@@ -55,6 +91,8 @@ fn serve_order<F: Files, K: Sink>(
         Err(OrderError::Fault) => answer(out, b"read fault\n", 3),
         Err(OrderError::Size) => answer(out, b"refused Size\n", 1),
         Err(OrderError::NotBuiltYet) => answer(out, b"refused Later\n", 1),
+        Err(OrderError::DomainsDoNotFit) => answer(out, b"domains do not fit\n", 2),
+        Err(OrderError::OverWeight(weight)) => answer_weight(out, weight),
         Err(OrderError::NoMemory) => answer(out, b"no memory\n", 5),
     }
 }
@@ -63,27 +101,34 @@ fn serve_order<F: Files, K: Sink>(
 ///
 /// - 0: the sink took the text of the run of the turns;
 /// - 1: the source is refused, and the sink took the line of the refusal;
-/// - 2: the words are no command, and the sink took the usage line;
+/// - 2: the words are no command, and the sink took the usage line; or a turn is one of no domain of
+///   the source, and it took `domains do not fit`;
 /// - 3: a read of the named file failed, and the sink took `read fault`;
 /// - 4: a write failed, and the sink took a front of the text;
-/// - 5: an allocation was refused, and the sink took `no memory`.
+/// - 5: an allocation was refused, and the sink took `no memory`;
+/// - 7: the run would weigh more than 4,000,000, and the sink took the line that tells its weight.
+#[tactic(auto, using(crate::proofs::ReadTurns::orders_few))]
 pub fn serve_plain<F: Files, K: Sink>(
     alloc: Global,
     words: &[String],
     files: &mut F,
     out: &mut K,
 ) -> u8
-    ensures statuses { result ≤ 5 }
+    ensures statuses { (result ≤ 5) ⊎ (result ≡ 7) }
     ensures done { result ≡ 0 → OrdersSuch (word_list words.now) (F.told files.old) (λ bytes turns. PrintsRun bytes turns (K.taken out.old) (K.taken out.new)) }
     ensures refused { result ≡ 1 → OrdersSuch (word_list words.now) (F.told files.old) (λ bytes turns. PrintsRefusal bytes (K.taken out.old) (K.taken out.new)) }
-    ensures no_command { result ≡ 2 → IsNoCommand (word_list words.now) × TakesMore (K.taken out.old) (K.taken out.new) usage_line }
+    ensures no_run { result ≡ 2 →
+        (IsNoCommand (word_list words.now) × TakesMore (K.taken out.old) (K.taken out.new) usage_line)
+        ⊎ (OrdersSuch (word_list words.now) (F.told files.old) IsMisfit × TakesMore (K.taken out.old) (K.taken out.new) misfit_line) }
     ensures usage { IsNoCommand (word_list words.now) → (result ≡ 2) ⊎ (result ≡ 4) }
     ensures read_fault { result ≡ 3 → FailsToRead (word_list words.now) (F.faults files.old) (F.faults files.new) × TakesMore (K.taken out.old) (K.taken out.new) (codes "read fault\n") }
     ensures write_fault { result ≡ 4 → Rose (K.faults out.old) (K.faults out.new) × BeginsAnswer (word_list words.now) (F.told files.old) (K.taken out.old) (K.taken out.new) }
-    ensures no_memory { result ≡ 5 → OrdersSuch (word_list words.now) (F.told files.old) (λ bytes turns. Unit {0}) × TakesMore (K.taken out.old) (K.taken out.new) (codes "no memory\n") }
+    ensures no_memory { result ≡ 5 → IsCommand (word_list words.now) × TakesMore (K.taken out.old) (K.taken out.new) (codes "no memory\n") }
+    ensures weight { result ≡ 7 → PrintsWeight (word_list words.now) (F.told files.old) (K.taken out.old) (K.taken out.new) }
 {
-    match read_order(words) {
-        Some(order) => serve_order(alloc, order.file, order.turns, files, out),
-        None => answer(out, USAGE, 2),
+    match read_order(alloc, words) {
+        Ok(Some(order)) => serve_order(alloc, order.file, &order.turns, files, out),
+        Ok(None) => answer(out, USAGE, 2),
+        Err(NoMemory) => answer(out, b"no memory\n", 5),
     }
 }

@@ -1,6 +1,7 @@
 use crate::serve::serve_plain;
 use sj_io::{MemFile, MemFiles, MemSink};
 use std::alloc::Global;
+use std::process::Abort;
 use std::test::Fail;
 
 const BLINK: &[u8] = b"system{interface{output signal A;}{emit A;pause;emit A;}}";
@@ -42,10 +43,25 @@ fn serve(
     Ok((status, Vec::from_slice(alloc, sink.bytes())?))
 }
 
+// An order of a source and turns succeeds, and writes this text.
+fn prints<R: Abort>(
+    rt: &R,
+    alloc: Global,
+    source: &[u8],
+    turns: &str,
+    text: &[u8],
+) -> Result<(), Fail> {
+    let (status, written) = serve(alloc, &["order", "F", turns, "-"], source, 7)?;
+    assert_eq!(rt; status, 0);
+    assert_eq!(rt; written.as_slice(), text);
+    Ok(())
+}
+
 #[test]
-fn prints_the_run_of_the_turns(rt: HostRuntime) -> Result<(), Fail> {
-    let cases: [(&[u8], &str, &[u8]); 6] = [
+fn prints_the_run_of_one_domain(rt: HostRuntime) -> Result<(), Fail> {
+    let cases: [(&[u8], &str, &[u8]); 7] = [
         (BLINK, "0,0,0", b"domain 0 ticks 2 ended\n1 @1 A\n2 @2 A\n"),
+        (BLINK, "rr:3", b"domain 0 ticks 2 ended\n1 @1 A\n2 @2 A\n"),
         (BLINK, "0", b"domain 0 ticks 1 paused\n1 @1 A\n"),
         (EMPTY, "0", b"domain 0 ticks 1 ended\n1 @1\n"),
         (EMPTY, "-", b"domain 0 ticks 0 paused\n"),
@@ -61,10 +77,113 @@ fn prints_the_run_of_the_turns(rt: HostRuntime) -> Result<(), Fail> {
         ),
     ];
     for (source, turns, text) in cases {
-        let (status, written) = serve(rt.alloc(), &["order", "F", turns, "-"], source, 3)?;
-        assert_eq!(rt; status, 0);
-        assert_eq!(rt; written.as_slice(), text);
+        prints(&rt, rt.alloc(), source, turns, text)?;
     }
+    Ok(())
+}
+
+#[test]
+fn one_rendezvous(rt: HostRuntime) -> Result<(), Fail> {
+    prints(
+        &rt,
+        rt.alloc(),
+        b"system{interface{output signal D;output signal B;int channel C;}{send C(5); emit D;}><{receive C; emit B;}}",
+        "0,1,0,1",
+        b"domain 0 ticks 2 ended\n1 @1\n2 @3 D\ndomain 1 ticks 2 ended\n1 @1\n2 @3 B\nchannel C 1\n1 5 1 1 @2\n",
+    )
+}
+
+#[test]
+fn three_joins_of_one_channel(rt: HostRuntime) -> Result<(), Fail> {
+    prints(
+        &rt,
+        rt.alloc(),
+        b"system{interface{output signal B;int channel C;}{send C(1);send C(2147483647);send C(0xffffffff);}><{receive C;emit B;receive C;emit B;receive C;emit B;}}",
+        "rr:4",
+        b"domain 0 ticks 4 ended\n1 @1\n2 @3\n3 @5\n4 @7\ndomain 1 ticks 4 ended\n1 @1\n2 @3 B\n3 @5 B\n4 @7 B\nchannel C 3\n1 1 1 1 @2\n2 2147483647 2 2 @4\n3 -1 3 3 @6\n",
+    )
+}
+
+#[test]
+fn joins_of_three_domains(rt: HostRuntime) -> Result<(), Fail> {
+    prints(
+        &rt,
+        rt.alloc(),
+        b"system{interface{output signal A;output signal B;int channel C;int channel D;}{while(true){send C(1);emit A;}}><{while(true){receive C;send D(2);}}><{while(true){receive D;emit B;}}}",
+        "rr:5",
+        b"domain 0 ticks 5 paused\n1 @1\n2 @3 A\n3 @4\n4 @7 A\n5 @8\ndomain 1 ticks 5 paused\n1 @1\n2 @3\n3 @5\n4 @7\n5 @9\ndomain 2 ticks 5 paused\n1 @1\n2 @5 B\n3 @6\n4 @9 B\n5 @10\nchannel C 3\n1 1 1 1 @2\n2 1 3 3 @6\n3 1 5 5 @10\nchannel D 2\n1 2 2 1 @4\n2 2 4 3 @8\n",
+    )
+}
+
+#[test]
+fn an_offer_stands_until_the_other_end_comes(rt: HostRuntime) -> Result<(), Fail> {
+    let source =
+        b"system{interface{output signal A;int channel C;}{send C(7);emit A;}><{pause;pause;receive C;}}";
+    prints(
+        &rt,
+        rt.alloc(),
+        source,
+        "0,0,0",
+        b"domain 0 ticks 3 paused\n1 @1\n2 @2\n3 @3\ndomain 1 ticks 0 paused\nchannel C 0\n",
+    )?;
+    prints(
+        &rt,
+        rt.alloc(),
+        source,
+        "0,0,0,1,1,0,1,0,1",
+        b"domain 0 ticks 5 ended\n1 @1\n2 @2\n3 @3\n4 @4\n5 @6 A\ndomain 1 ticks 4 ended\n1 @1\n2 @2\n3 @3\n4 @6\nchannel C 1\n1 7 4 3 @5\n",
+    )
+}
+
+#[test]
+fn turns_of_no_domain_do_not_fit(rt: HostRuntime) -> Result<(), Fail> {
+    let cases: [(&[u8], &str); 3] = [
+        (BLINK, "1"),
+        (b"system{interface{}{}><{}}", "0,1,2"),
+        (EMPTY, "0,0,15"),
+    ];
+    for (source, turns) in cases {
+        let (status, written) = serve(rt.alloc(), &["order", "F", turns, "-"], source, 100)?;
+        assert_eq!(rt; status, 2);
+        assert_eq!(rt; written.as_slice(), b"domains do not fit\n".as_slice());
+    }
+    prints(
+        &rt,
+        rt.alloc(),
+        b"system{interface{}{}><{}}",
+        "1",
+        b"domain 0 ticks 0 paused\ndomain 1 ticks 1 ended\n1 @1\n",
+    )
+}
+
+// Domain 0 has 39 outputs, and domain 1 none.
+fn wide_source(alloc: Global) -> Result<String, Fail> {
+    let mut source = String::from_str(alloc, "system{interface{")?;
+    for number in 0..39u32 {
+        source.push_str(format!(in alloc; "output signal A{number};")?.as_str())?;
+    }
+    source.push_str("}{}><{}}")?;
+    Ok(source)
+}
+
+#[test]
+fn a_run_weighs_at_most_four_millions(rt: HostRuntime) -> Result<(), Fail> {
+    let source = wide_source(rt.alloc())?;
+    let source = source.as_bytes();
+    prints(
+        &rt,
+        rt.alloc(),
+        source,
+        "rr:97560",
+        b"domain 0 ticks 1 ended\n1 @1\ndomain 1 ticks 1 ended\n1 @1\n",
+    )?;
+    let order = ["order", "F", "rr:97561", "-"];
+    let (status, written) = serve(rt.alloc(), &order, source, 100)?;
+    assert_eq!(rt; status, 7);
+    assert_eq!(rt;
+        written.as_slice(),
+        b"over the run weight 4000001\n".as_slice()
+    );
     Ok(())
 }
 
@@ -104,7 +223,7 @@ fn other_words_are_no_command(rt: HostRuntime) -> Result<(), Fail> {
         &["order", "F", "0"],
         &["order", "F", "0", "I"],
         &["order", "F", "0,", "-"],
-        &["order", "F", "1", "-"],
+        &["order", "F", "16", "-"],
         &["order", "F", "", "-"],
         &["order", "F", "0", "-", "-"],
         &["check", "F"],
@@ -115,12 +234,18 @@ fn other_words_are_no_command(rt: HostRuntime) -> Result<(), Fail> {
         assert_eq!(rt; status, 2);
         assert_eq!(rt; written.as_slice(), USAGE);
     }
-    let most = zeros(rt.alloc(), 3902)?;
+    Ok(())
+}
+
+#[test]
+fn a_domain_has_at_most_100_000_turns(rt: HostRuntime) -> Result<(), Fail> {
+    let most = zeros(rt.alloc(), 100_000)?;
     let (status, _) = serve(rt.alloc(), &["order", "F", most.as_str(), "-"], BLINK, 100)?;
     assert_eq!(rt; status, 0);
-    let more = zeros(rt.alloc(), 3903)?;
-    let (status, _) = serve(rt.alloc(), &["order", "F", more.as_str(), "-"], BLINK, 100)?;
+    let more = zeros(rt.alloc(), 100_001)?;
+    let (status, written) = serve(rt.alloc(), &["order", "F", more.as_str(), "-"], BLINK, 100)?;
     assert_eq!(rt; status, 2);
+    assert_eq!(rt; written.as_slice(), USAGE);
     Ok(())
 }
 

@@ -7,10 +7,14 @@ pub enum Word {
     Interface,
     Output,
     Signal,
+    Int,
+    Channel,
     Emit,
     Pause,
     While,
     True,
+    Send,
+    Receive,
 }
 
 #[derive(Clone, Copy, Debug, PartialEq, Eq)]
@@ -20,6 +24,8 @@ pub enum Mark {
     OpenParen,
     CloseParen,
     Semicolon,
+    /// `><`
+    Beside,
 }
 
 #[derive(Debug, Drop)]
@@ -27,4 +33,5 @@ pub enum Token {
     Reserved(Word),
     Sign(Mark),
     Name(Text),
+    Number(i32),
 }

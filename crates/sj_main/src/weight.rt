@@ -1,17 +1,16 @@
-// The weight of a statement: the leaves of its starting and of its resuming tree.
+// The weight of a statement, by its starting and its resuming tree.
 
 ghost use Rattle.std.specs.Prelude.{◌≡◌, ◌+◌, ◌∷◌, map, cond};
-ghost use Rattle.sj_main.specs.definitions.Plain.{plain};
-ghost use Rattle.sj_main.specs.definitions.Plain.{ends0, ends1};
+ghost use Rattle.domain_core.specs.BuiltForms.{plain, ends0, ends1};
 ghost use Rattle.sj_main.specs.Weights.{starting_weight, resuming_weight, starting_rest, resuming_rest, capped, Weighs};
 ghost use Rattle.sj_main.specs.definitions.Weight.{weight_of};
 
 use crate::shape::{ends0, ends1, tell_first};
 use kernel_terms::{Form, Term};
 
-/// How many leaves the two trees of a statement have, up to 2^64 - 1.
+/// The weights of the two trees of a statement, up to 2^64 - 1.
 #[derive(Clone, Copy, Debug)]
-pub struct Copies {
+pub struct TreeWeights {
     pub starting: u64,
     pub resuming: u64,
 }
@@ -20,24 +19,29 @@ pub struct Copies {
 pub fn weight(term: &Term) -> u64
     ensures { result ≡ capped (weight_of (plain term.now)) }
 {
-    let copies = weigh(term);
-    copies.starting.saturating_add(copies.resuming)
+    let weights = weigh(term);
+    weights.starting.saturating_add(weights.resuming)
 }
 
 #[cycle(weigh)]
 #[tactic(auto, using(crate::proofs::WeightLemmas::weights_of_sequences))]
-fn weigh(term: &Term) -> Copies
+fn weigh(term: &Term) -> TreeWeights
     ensures { Weighs (starting_weight (plain term.now)) (resuming_weight (plain term.now)) result }
 {
     match &term.form {
-        Form::Pause => Copies {
+        Form::Pause | Form::Receive { .. } => TreeWeights {
             starting: 1,
+            resuming: 1,
+        },
+        // The literal that is sent is looked at in the starting tick alone.
+        Form::Send { .. } => TreeWeights {
+            starting: 2,
             resuming: 1,
         },
         Form::Seq(parts) => {
             let parts = parts.as_slice();
             if parts.is_empty() {
-                return Copies {
+                return TreeWeights {
                     starting: 1,
                     resuming: 0,
                 };
@@ -48,7 +52,7 @@ fn weigh(term: &Term) -> Copies
             let body = body.get();
             again(weigh(body), ends1(body))
         }
-        _ => Copies {
+        _ => TreeWeights {
             starting: 1,
             resuming: 0,
         },
@@ -56,12 +60,12 @@ fn weigh(term: &Term) -> Copies
 }
 
 // A loop starts its body again where it may end in a later tick.
-fn again(body: Copies, ends: bool) -> Copies
+fn again(body: TreeWeights, ends: bool) -> TreeWeights
     ensures starting { result.starting ≡ body.starting }
     ensures resuming { result.resuming ≡ capped (body.resuming + cond ends body.starting 0) }
 {
     let started = if ends { body.starting } else { 0 };
-    Copies {
+    TreeWeights {
         starting: body.starting,
         resuming: body.resuming.saturating_add(started),
     }
@@ -69,10 +73,10 @@ fn again(body: Copies, ends: bool) -> Copies
 
 #[cycle(weigh)]
 #[tactic(auto, using(crate::proofs::WeightLemmas::rest_steps))]
-fn weigh_all(parts: &[Term]) -> Copies
+fn weigh_all(parts: &[Term]) -> TreeWeights
     ensures { Weighs (starting_rest (map plain parts.now)) (resuming_rest (map plain parts.now)) result }
 {
-    let mut all = Copies {
+    let mut all = TreeWeights {
         starting: 0,
         resuming: 0,
     };
@@ -86,13 +90,13 @@ fn weigh_all(parts: &[Term]) -> Copies
 }
 
 // A part before others.
-fn before(own: Copies, after: Copies, ends0: bool, ends1: bool) -> Copies
+fn before(own: TreeWeights, after: TreeWeights, ends0: bool, ends1: bool) -> TreeWeights
     ensures starting { result.starting ≡ capped (own.starting + cond ends0 after.starting 0) }
     ensures resuming { result.resuming ≡ capped (capped (own.resuming + cond ends1 after.starting 0) + after.resuming) }
 {
     let starts = if ends0 { after.starting } else { 0 };
     let restarts = if ends1 { after.starting } else { 0 };
-    Copies {
+    TreeWeights {
         starting: own.starting.saturating_add(starts),
         resuming: own
             .resuming

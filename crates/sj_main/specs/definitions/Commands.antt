@@ -1,24 +1,78 @@
 -- The words of a command.
-use Rattle.std.specs.Prelude.{◌≡◌, ◌⊎◌, ℕ, zero, suc, ◌≤◌, List, [], ◌∷◌, ◌++◌, codes}
+use Rattle.std.specs.Prelude.{◌≡◌, ℕ, zero, suc, ◌+◌, ◌<◌, ◌≤◌, ◌==◌, nat_lt, cond, List, [], ◌∷◌, ◌++◌, map, All, Option, Some, None, codes}
+use Rattle.std.specs.List.{range_with_len}
+use Rattle.domain_core.specs.Scheduled.{turns_of}
+use Rattle.sj_main.specs.definitions.Tokens.{number_from}
+use Rattle.sj_main.specs.declared.commands.Turns.{Turns}
+use Rattle.sj_main.specs.declared.commands.Turns.TheVariants.{Rounds, Each}
 
--- so many zeros with commas
-abbrev pub zeros : ℕ → List ℕ
-zeros zero = []
-zeros (suc zero) = codes "0"
-zeros (suc (suc n)) = codes "0," ++ zeros (suc n)
-
+-- how many turns one domain may have
 abbrev pub most_turns : ℕ
-most_turns = 3902
+most_turns = 100000
 
--- `-` is no turn, and else there are turns of domain 0 alone
-abbrev pub IsTurns : List ℕ → ℕ → Type 0
-IsTurns word turns = ((word ≡ codes "-") × (turns ≡ 0)) ⊎ ((word ≡ zeros turns) × (1 ≤ turns) × (turns ≤ most_turns))
+-- the number that a word is in decimal, with no zero before it, where it is within the limit
+abbrev pub whole_number : ℕ → List ℕ → Option ℕ
+whole_number limit [] = None
+whole_number limit (b ∷ []) = number_from 10 limit 0 (b ∷ [])
+whole_number limit (b ∷ c ∷ rest) = cond (b == 48) None (number_from 10 limit 0 (b ∷ c ∷ rest))
+
+-- a domain's number below 16 in decimal
+abbrev pub turn_text : ℕ → List ℕ
+turn_text t = cond (nat_lt t 10) ((48 + t) ∷ []) (49 ∷ (38 + t) ∷ [])
+
+-- one turn at least, with commas between the turns
+abbrev pub turns_text : ℕ → List ℕ → List ℕ
+turns_text t [] = turn_text t
+turns_text t (u ∷ ts) = turn_text t ++ 44 ∷ turns_text u ts
+
+abbrev pub AreDomains : List ℕ → Type 0
+AreDomains [] = Unit {0}
+AreDomains (t ∷ ts) = (t < 16) × AreDomains ts
+
+-- `-` for no turn, and else the turns with commas
+abbrev pub AreTurns : List ℕ → List ℕ → Type 0
+AreTurns word [] = word ≡ codes "-"
+AreTurns word (t ∷ ts) = word ≡ turns_text t ts
+
+pub record IsEach (word turns : List ℕ) : Type 0 where
+  pub are : AreTurns word turns
+  pub domains : AreDomains turns
+  pub few : (d : ℕ) → turns_of d turns ≤ most_turns
+
+pub record IsRounds (word : List ℕ) (rounds : ℕ) : Type 0 where
+  pub digits : List ℕ
+  pub is : word ≡ codes "rr:" ++ digits
+  pub number : whole_number most_turns digits ≡ Some rounds
+
+-- turns one by one, or rounds of all domains
+abbrev pub IsTurns : List ℕ → Turns → Type 0
+IsTurns word (Rounds n) = IsRounds word n
+IsTurns word (Each turns) = IsEach word turns
+
+-- so many rounds, each a turn of each of so many domains by rising number
+abbrev pub rounds_of : ℕ → ℕ → List ℕ
+rounds_of zero domains = []
+rounds_of (suc n) domains = range_with_len 0 domains ++ rounds_of n domains
+
+-- the turns of a program of so many domains
+abbrev pub turns_for : Turns → ℕ → List ℕ
+turns_for (Rounds n) domains = rounds_of n domains
+turns_for (Each turns) domains = turns
+
+-- each turn is one of so many domains; rounds always are
+abbrev pub FitDomains : Turns → ℕ → Type 0
+FitDomains (Rounds n) domains = Unit {0}
+FitDomains (Each turns) domains = All (λ t. t < domains) turns
+
+-- the budget of each of so many domains is how many turns it has
+abbrev pub budgets_for : Turns → ℕ → List ℕ
+budgets_for turns domains = map (λ d. turns_of d (turns_for turns domains)) (range_with_len 0 domains)
 
 -- `order FILE TURNS -`
-pub record IsOrder (words : List (List ℕ)) (file : List ℕ) (turns : ℕ) : Type 0 where
+pub record IsOrder (words : List (List ℕ)) (file : List ℕ) (turns : Turns) : Type 0 where
   pub word : List ℕ
   pub is : words ≡ codes "order" ∷ file ∷ word ∷ codes "-" ∷ []
   pub takes : IsTurns word turns
 
 abbrev pub IsNoCommand : List (List ℕ) → Type 0
-IsNoCommand words = (file : List ℕ) (turns : ℕ) → IsOrder words file turns → ⊥
+IsNoCommand words = (file : List ℕ) (turns : Turns) → IsOrder words file turns → ⊥

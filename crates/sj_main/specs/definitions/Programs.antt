@@ -1,19 +1,124 @@
 -- The system that a program is.
-use Rattle.std.specs.Prelude.{ℕ, List, [], ◌∷◌, map, None}
+use Rattle.std.specs.Prelude.{ℕ, suc, cond, List, [], ◌∷◌, ◌++◌, map, Option, Some, None, unwrap_or}
+use Rattle.std.specs.List.{position_or_len}
+use Rattle.std.specs.Str.{bytes_eq}
+use Rattle.java_values.specs.declared.kind.Kind.TheVariants.{Int}
 use Rattle.kernel_terms.specs.declared.tables.SignalInfo.{SignalInfo}
+use Rattle.kernel_terms.specs.declared.tables.ChannelInfo.{ChannelInfo}
 use Rattle.kernel_terms.specs.declared.tables.Tables.{Tables}
 use Rattle.kernel_terms.specs.declared.tables.Sort.TheVariants.{Output}
 use Rattle.kernel_terms.specs.declared.tables.Combine.TheVariants.{Max}
+use Rattle.kernel_terms.specs.WellFormed.{stands_in}
 use Rattle.domain_core.specs.Systems.{Setup}
-use Rattle.sj_main.specs.definitions.Plain.{Plain, whole}
+use Rattle.domain_core.specs.BuiltForms.{Plain, Nothing, Pause, Emit, Seq, Loop, Send, Receive, sequence, whole}
+use Rattle.sj_main.specs.definitions.Grammar.{Block, Done, EmptyThen, PauseThen, EmitThen, WhileThen, SendThen, ReceiveThen, Port, SignalPort, ChannelPort, Program, blocks_of}
 
--- a pure output of the one domain
-abbrev pub pure_output : List ℕ → SignalInfo
-pure_output name = record { name = name; domain = 0; sort = Output; kind = None; combine = Max }
+-- the names of the signals and of the channels, each in order of declaration
+pub record Interface : Type 0 where
+  pub signals : List (List ℕ)
+  pub channels : List (List ℕ)
 
-abbrev pub pure_outputs : List (List ℕ) → Tables
-pure_outputs names = record { signals = map pure_output names; channels = []; variables = [] }
+abbrev pub signal_names : List Port → List (List ℕ)
+signal_names [] = []
+signal_names (SignalPort name ∷ ports) = name ∷ signal_names ports
+signal_names (ChannelPort name ∷ ports) = signal_names ports
 
--- one domain with this statement, over outputs of these names, to which nothing is handed in
-abbrev pub one_domain : List (List ℕ) → Plain → Setup
-one_domain names p = record { tables = pure_outputs names; statements = whole p ∷ []; inputs = λ s n. None }
+abbrev pub channel_names : List Port → List (List ℕ)
+channel_names [] = []
+channel_names (SignalPort name ∷ ports) = channel_names ports
+channel_names (ChannelPort name ∷ ports) = name ∷ channel_names ports
+
+abbrev pub interface_of : List Port → Interface
+interface_of ports = record { signals = signal_names ports; channels = channel_names ports }
+
+-- the number of the name's signal
+abbrev pub signal_of : Interface → List ℕ → ℕ
+signal_of i name = position_or_len (bytes_eq name) i.signals
+
+-- the number of the name's channel
+abbrev pub channel_of : Interface → List ℕ → ℕ
+channel_of i name = position_or_len (bytes_eq name) i.channels
+
+-- the statements that the parts of a block stand for
+abbrev pub parts_of : Interface → Block → List Plain
+parts_of i Done = []
+parts_of i (EmptyThen rest) = Nothing ∷ parts_of i rest
+parts_of i (PauseThen rest) = Pause ∷ parts_of i rest
+parts_of i (EmitThen name rest) = Emit (signal_of i name) ∷ parts_of i rest
+parts_of i (WhileThen body rest) = Loop (sequence (parts_of i body)) ∷ parts_of i rest
+parts_of i (SendThen name n rest) = Send (channel_of i name) n ∷ parts_of i rest
+parts_of i (ReceiveThen name rest) = Receive (channel_of i name) ∷ parts_of i rest
+
+-- a domain's statement
+abbrev pub block_statement : Interface → Block → Plain
+block_statement i b = sequence (parts_of i b)
+
+-- the statement of each domain, by rising number
+abbrev pub domain_statements : Program → List Plain
+domain_statements p = map (block_statement (interface_of p.ports)) (blocks_of p)
+
+-- the signals that a statement emits
+abbrev pub emits_of : Plain → List ℕ
+emits_of Nothing = []
+emits_of Pause = []
+emits_of (Emit s) = s ∷ []
+emits_of (Seq p q) = emits_of p ++ emits_of q
+emits_of (Loop p) = emits_of p
+emits_of (Send c n) = []
+emits_of (Receive c) = []
+
+-- the channels on which it sends
+abbrev pub sends_of : Plain → List ℕ
+sends_of Nothing = []
+sends_of Pause = []
+sends_of (Emit s) = []
+sends_of (Seq p q) = sends_of p ++ sends_of q
+sends_of (Loop p) = sends_of p
+sends_of (Send c n) = c ∷ []
+sends_of (Receive c) = []
+
+-- the channels on which it receives
+abbrev pub receives_of : Plain → List ℕ
+receives_of Nothing = []
+receives_of Pause = []
+receives_of (Emit s) = []
+receives_of (Seq p q) = receives_of p ++ receives_of q
+receives_of (Loop p) = receives_of p
+receives_of (Send c n) = []
+receives_of (Receive c) = c ∷ []
+
+-- the first domain, counted from d on, in whose list the number stands
+abbrev pub first_with : (Plain → List ℕ) → ℕ → ℕ → List Plain → Option ℕ
+first_with uses n d [] = None
+first_with uses n d (p ∷ ps) = cond (stands_in n (uses p)) (Some d) (first_with uses n (suc d) ps)
+
+-- the same, and domain 0 where there is none
+abbrev pub owner_of : (Plain → List ℕ) → List Plain → ℕ → ℕ
+owner_of uses ps n = unwrap_or (first_with uses n 0 ps) 0
+
+-- the pure outputs of these names, from a number on, each of the domain that owns it
+abbrev pub signals_from : (ℕ → ℕ) → ℕ → List (List ℕ) → List SignalInfo
+signals_from owner s [] = []
+signals_from owner s (name ∷ names) =
+    record { name = name; domain = owner s; sort = Output; kind = None; combine = Max } ∷ signals_from owner (suc s) names
+
+-- the channels of these names, from a number on, each between its two domains
+abbrev pub channels_from : (sender receiver : ℕ → ℕ) → ℕ → List (List ℕ) → List ChannelInfo
+channels_from sender receiver c [] = []
+channels_from sender receiver c (name ∷ names) =
+    record { name = name; kind = Int; sender = sender c; receiver = receiver c } ∷ channels_from sender receiver (suc c) names
+
+-- the tables of domains with these statements
+abbrev pub tables_for : Interface → List Plain → Tables
+tables_for i ps = record {
+  signals = signals_from (owner_of emits_of ps) 0 i.signals;
+  channels = channels_from (owner_of sends_of ps) (owner_of receives_of ps) 0 i.channels;
+  variables = [];
+}
+
+abbrev pub tables_of_program : Program → Tables
+tables_of_program p = tables_for (interface_of p.ports) (domain_statements p)
+
+-- the program as the rules take it; nothing is handed in
+abbrev pub setup_of : Program → Setup
+setup_of p = record { tables = tables_of_program p; statements = map whole (domain_statements p); inputs = λ s n. None }

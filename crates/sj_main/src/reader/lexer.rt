@@ -1,9 +1,10 @@
 ghost use Rattle.std.specs.Prelude.{◌≡◌, ◌+◌, ◌≤◌, ◌<◌, IfOk, IfSome, MatchOption, length, Some, None, []};
-ghost use Rattle.sj_main.specs.definitions.Tokens.{skip_white, next_token, Spells};
-ghost use Rattle.sj_main.specs.ReadingTokens.{tokens_of, Lexed, word_front, SpellsNothing};
+ghost use Rattle.sj_main.specs.definitions.Tokens.{skip_white, run_token, sign_front, next_token, Spells};
+ghost use Rattle.sj_main.specs.ReadingTokens.{tokens_of, Lexed, run_front, SpellsNothing};
 
-use super::words::{is_letter, sign_token, white_len, word_len, word_token};
-use crate::token::Token;
+use super::numbers::literal_value;
+use super::words::{is_letter, is_word_byte, sign_token, white_len, word_len, word_token};
+use crate::token::{Mark, Token};
 use java_values::NoMemory;
 use std::alloc::Global;
 
@@ -28,14 +29,43 @@ fn after_white(bytes: &[u8]) -> &[u8]
     &bytes[len..]
 }
 
-fn next_word(alloc: Global, bytes: &[u8]) -> Result<Option<Next<'_>>, NoMemory>
-    ensures { IfOk result (λ o. MatchOption o (word_front bytes.now ≡ None) (λ n. word_front bytes.now ≡ Some (n.token, n.rest.now))) }
+/// The token that a run of letters, digits and `_` is.
+fn run_token(alloc: Global, first: u8, run: &[u8]) -> Result<Option<Token>, NoMemory>
+    ensures { IfOk result (λ o. o ≡ run_token first run.now) }
 {
-    let (word, rest) = bytes.split_at(word_len(bytes));
-    let Some(token) = word_token(alloc, word)? else {
+    if is_letter(first) {
+        return word_token(alloc, run);
+    }
+    let Some(number) = literal_value(run) else {
+        return Ok(None);
+    };
+    Ok(Some(Token::Number(number)))
+}
+
+fn next_run(alloc: Global, first: u8, bytes: &[u8]) -> Result<Option<Next<'_>>, NoMemory>
+    ensures { IfOk result (λ o. MatchOption o (run_front first bytes.now ≡ None) (λ n. run_front first bytes.now ≡ Some (n.token, n.rest.now))) }
+{
+    let (run, rest) = bytes.split_at(word_len(bytes));
+    let Some(token) = run_token(alloc, first, run)? else {
         return Ok(None);
     };
     Ok(Some(Next { token, rest }))
+}
+
+/// The sign whose first byte stands before these bytes.
+fn next_sign(first: u8, rest: &[u8]) -> Option<Next<'_>>
+    ensures { MatchOption result (sign_front first rest.now ≡ None) (λ n. sign_front first rest.now ≡ Some (n.token, n.rest.now)) }
+{
+    if let [second, after @ ..] = rest {
+        if first == b'>' && *second == b'<' {
+            return Some(Next {
+                token: Token::Sign(Mark::Beside),
+                rest: after,
+            });
+        }
+    }
+    let token = sign_token(first)?;
+    Some(Next { token, rest })
 }
 
 /// The token at the head of the bytes.
@@ -45,13 +75,10 @@ fn next_token(alloc: Global, bytes: &[u8]) -> Result<Option<Next<'_>>, NoMemory>
     let [first, rest @ ..] = bytes else {
         return Ok(None);
     };
-    if is_letter(*first) {
-        return next_word(alloc, bytes);
+    if is_word_byte(*first) {
+        return next_run(alloc, *first, bytes);
     }
-    let Some(token) = sign_token(*first) else {
-        return Ok(None);
-    };
-    Ok(Some(Next { token, rest }))
+    Ok(next_sign(*first, rest))
 }
 
 /// The tokens of the source, where it has no other bytes than these and white space.

@@ -1,38 +1,31 @@
-ghost use Rattle.std.specs.Prelude.{◌≡◌, ◌+◌, ◌≤◌, ◌<◌, [], ◌∷◌, ◌++◌, false, true, IfOk, IfSome, MatchOption, MatchBool, OnOk, length, map};
+ghost use Rattle.std.specs.Prelude.{◌≡◌, ◌+◌, ◌≤◌, ◌<◌, [], ◌∷◌, ◌++◌, false, true, IfOk, IfSome, MatchOption, MatchBool, OnOk, length, map, get_or};
 ghost use Rattle.std.specs.List.{list_any};
 ghost use Rattle.std.specs.Str.{bytes_eq};
-ghost use Rattle.kernel_terms.specs.Limits.{most_signals};
-ghost use Rattle.sj_main.specs.definitions.Accepted.{signal_of};
-ghost use Rattle.sj_main.specs.definitions.Programs.{pure_output};
-ghost use Rattle.sj_main.specs.ReadingNames.{names_of, AreNames, IsPlace, Declared, IsRefused};
+ghost use Rattle.sj_main.specs.ReadingNames.{set_names, names_of, AreFew, IsSmall, IsPlace, IsAdded, port_of, is_taken, Declared};
 
 use indexmap::IndexSet;
-use java_values::{NoMemory, Text};
-use kernel_terms::{Combine, SignalInfo, Sort};
+use java_values::NoMemory;
 use std::alloc::Global;
 
-/// How many signals a program may have.
-const MOST_SIGNALS: usize = 1024;
-
-/// The names of the signals, in order of declaration.
+/// Names in order of declaration.
 #[derive(Drop)]
-pub struct Names {
+pub struct NameSet {
     set: IndexSet<Vec<u8>>,
 }
 
-impl Names {
-    pub fn new(alloc: Global) -> Names
-        ensures { names_of result ≡ [] }
+impl NameSet {
+    fn new(alloc: Global) -> NameSet
+        ensures { set_names result ≡ [] }
     {
-        Names {
+        NameSet {
             set: IndexSet::new(alloc),
         }
     }
 
-    /// The number of the signal of this name.
+    /// The place of this name.
     pub fn place(&self, name: &[u8]) -> Option<u32>
-        requires { AreNames (names_of self.now) }
-        ensures { MatchOption result (list_any (bytes_eq name.now) (names_of self.now) ≡ false) (λ i. IsPlace (names_of self.now) name.now i) }
+        requires { AreFew (set_names self.now) }
+        ensures { MatchOption result (list_any (bytes_eq name.now) (set_names self.now) ≡ false) (λ i. IsPlace (set_names self.now) name.now i) }
     {
         let Some(index) = self.set.get_index_of(name) else {
             return None;
@@ -40,33 +33,82 @@ impl Names {
         Some(index as u32)
     }
 
-    /// Adds the name, and answers whether it is new and there is room for it.
-    pub fn declare(&mut self, alloc: Global, name: &[u8]) -> Result<bool, NoMemory>
-        requires { AreNames (names_of self.old) }
-        ensures { IfOk result (λ added. MatchBool added (Declared (names_of self.old) (names_of self.new) name.now) (IsRefused (names_of self.old) name.now)) }
+    fn has(&self, name: &[u8]) -> bool
+        requires { AreFew (set_names self.now) }
+        ensures { result ≡ list_any (bytes_eq name.now) (set_names self.now) }
     {
-        if self.set.len() >= MOST_SIGNALS {
-            return Ok(false);
+        match self.place(name) {
+            Some(_) => true,
+            None => false,
         }
+    }
+
+    /// Adds the name, and answers whether it is new.
+    fn declare(&mut self, alloc: Global, name: &[u8]) -> Result<bool, NoMemory>
+        ensures { IfOk result (λ added. MatchBool added (IsAdded (set_names self.old) (set_names self.new) name.now) (list_any (bytes_eq name.now) (set_names self.old) ≡ true)) }
+    {
         let (_, added) = self.set.insert_full(Vec::from_slice(alloc, name)?)?;
         Ok(added)
     }
 
-    /// The signals of these names.
-    pub fn signals(&self, alloc: Global) -> Result<Vec<SignalInfo>, NoMemory>
-        ensures { IfOk result (λ v. v.items ≡ map pure_output (names_of self.now)) }
+    pub fn len(&self) -> usize
+        ensures { result ≡ length (set_names self.now) }
     {
-        let mut signals = Vec::new(alloc);
-        for name in self.set.as_slice() {
-            let name = Text::new(alloc, name)?;
-            signals.push(SignalInfo {
-                name,
-                domain: 0,
-                sort: Sort::Output,
-                kind: None,
-                combine: Combine::Max,
-            })?;
+        self.set.len()
+    }
+
+    pub fn name(&self, index: usize) -> &[u8]
+        requires { index < length (set_names self.now) }
+        ensures { result.now ≡ get_or (set_names self.now) index result.now }
+    {
+        let name = &self.set.as_slice()[index];
+        name.as_slice()
+    }
+}
+
+/// What a port is.
+#[derive(Clone, Copy, Debug, PartialEq, Eq)]
+pub enum PortKind {
+    Signal,
+    Channel,
+}
+
+/// The names of the signals and of the channels.
+#[derive(Drop)]
+pub struct Names {
+    pub signals: NameSet,
+    pub channels: NameSet,
+}
+
+impl Names {
+    pub fn new(alloc: Global) -> Names
+        ensures signals { (names_of result).signals ≡ [] }
+        ensures channels { (names_of result).channels ≡ [] }
+    {
+        Names {
+            signals: NameSet::new(alloc),
+            channels: NameSet::new(alloc),
         }
-        Ok(signals)
+    }
+
+    /// Adds the port, and answers whether its name is new.
+    pub fn declare(&mut self, alloc: Global, kind: PortKind, name: &[u8]) -> Result<bool, NoMemory>
+        requires small { IsSmall (names_of self.old) }
+        ensures { IfOk result (λ added. MatchBool added (Declared (names_of self.old) (names_of self.new) (port_of kind name.now) name.now) (is_taken (names_of self.old) name.now ≡ true)) }
+    {
+        match kind {
+            PortKind::Signal => {
+                if self.channels.has(name) {
+                    return Ok(false);
+                }
+                self.signals.declare(alloc, name)
+            }
+            PortKind::Channel => {
+                if self.signals.has(name) {
+                    return Ok(false);
+                }
+                self.channels.declare(alloc, name)
+            }
+        }
     }
 }

@@ -1,17 +1,18 @@
-ghost use Rattle.std.specs.Prelude.{◌≡◌, ◌+◌, ◌≤◌, ◌<◌, ◌∷◌, [], IfOk, MatchOption};
+ghost use Rattle.std.specs.Prelude.{◌≡◌, ◌+◌, ◌≤◌, ◌<◌, ◌∷◌, [], true, IfOk, IfSome, MatchOption};
+ghost use Rattle.sj_main.specs.BuiltTerms.{is_int};
 ghost use Rattle.sj_main.specs.declared.token.Token.TheVariants.{Reserved, Sign, Name};
 ghost use Rattle.sj_main.specs.declared.token.Mark.TheVariants as mark;
 ghost use Rattle.sj_main.specs.definitions.Accepted.{most_open};
 ghost use Rattle.sj_main.specs.ReadingTokens.{tokens_of, offset_of};
-ghost use Rattle.sj_main.specs.ReadingNames.{names_of, AreNames};
-ghost use Rattle.sj_main.specs.ReadingBlocks.{BeginsNot, Reads, ReadsAlways, ReadsAtAnyLevel, IsRead, IsSequence, StartsLoop, StartsNoLoop, NoPause, NoEmit, NoLoop, NoStatement, NoBlock};
+ghost use Rattle.sj_main.specs.ReadingNames.{names_of, IsSmall};
+ghost use Rattle.sj_main.specs.ReadingBlocks.{BeginsNot, Reads, ReadsAlways, ReadsAtAnyLevel, IsRead, IsSequence, StartsLoop, StartsNoLoop, StartsSend, StartsNoSend, NoPause, NoEmit, NoSend, NoReceive, NoLoop, NoStatement, NoBlock};
 
 use crate::reader::lexer::Placed;
 use crate::reader::names::Names;
-use crate::reader::steps::{after_sign, after_word, first_name};
+use crate::reader::steps::{after_sign, after_word, first_name, first_number};
 use crate::token::{Mark, Word};
-use java_values::NoMemory;
-use kernel_terms::{Form, Term};
+use java_values::{Kind, NoMemory, Text};
+use kernel_terms::{Expr, ExprForm, Form, Term};
 use sqlite_items::{Boxed, Items};
 use std::alloc::Global;
 
@@ -78,13 +79,13 @@ fn pause(tokens: &[Placed]) -> Option<Read<'_>>
 }
 
 fn emit<'a>(names: &Names, tokens: &'a [Placed]) -> Option<Read<'a>>
-    requires { AreNames (names_of names.now) }
+    requires { IsSmall (names_of names.now) }
     ensures { MatchOption result (NoEmit (names_of names.now) (tokens_of tokens.now)) (λ r. ReadsAtAnyLevel (names_of names.now) (tokens_of tokens.now) r.term (tokens_of r.rest.now)) }
 {
     let after = after_word(tokens, Word::Emit)?;
     let named = first_name(after)?;
     let rest = after_sign(named.rest, Mark::Semicolon)?;
-    let signal = names.place(named.name.bytes())?;
+    let signal = names.signals.place(named.name.bytes())?;
     let term = Term {
         at: first_offset(tokens),
         form: Form::Emit {
@@ -93,6 +94,71 @@ fn emit<'a>(names: &Names, tokens: &'a [Placed]) -> Option<Read<'a>>
         },
     };
     Some(Read { term, rest })
+}
+
+fn receive<'a>(names: &Names, tokens: &'a [Placed]) -> Option<Read<'a>>
+    requires { IsSmall (names_of names.now) }
+    ensures { MatchOption result (NoReceive (names_of names.now) (tokens_of tokens.now)) (λ r. ReadsAtAnyLevel (names_of names.now) (tokens_of tokens.now) r.term (tokens_of r.rest.now)) }
+{
+    let after = after_word(tokens, Word::Receive)?;
+    let named = first_name(after)?;
+    let rest = after_sign(named.rest, Mark::Semicolon)?;
+    let channel = names.channels.place(named.name.bytes())?;
+    let term = Term {
+        at: first_offset(tokens),
+        form: Form::Receive { channel },
+    };
+    Some(Read { term, rest })
+}
+
+/// The channel's name, the number and the tokens after a send.
+#[derive(Clone, Copy)]
+struct SendParts<'a> {
+    name: &'a Text,
+    number: i32,
+    rest: &'a [Placed],
+}
+
+fn send_parts(tokens: &[Placed]) -> Option<SendParts<'_>>
+    ensures parts { MatchOption result (StartsNoSend (tokens_of tokens.now)) (λ p. StartsSend (tokens_of tokens.now) p.name.now p.number (tokens_of p.rest.now)) }
+    ensures range { IfSome result (λ p. is_int p.number ≡ true) }
+{
+    let after = after_word(tokens, Word::Send)?;
+    let named = first_name(after)?;
+    let opened = after_sign(named.rest, Mark::OpenParen)?;
+    let numbered = first_number(opened)?;
+    let closed = after_sign(numbered.rest, Mark::CloseParen)?;
+    let rest = after_sign(closed, Mark::Semicolon)?;
+    Some(SendParts {
+        name: named.name,
+        number: numbered.number,
+        rest,
+    })
+}
+
+/// The send that the tokens begin with. Its parenthesis is one level deeper.
+fn send<'a>(names: &Names, level: u32, tokens: &'a [Placed]) -> Option<Read<'a>>
+    requires { IsSmall (names_of names.now) }
+    ensures { MatchOption result (NoSend (names_of names.now) level (tokens_of tokens.now)) (λ r. Reads (names_of names.now) level (tokens_of tokens.now) (r.term ∷ []) (tokens_of r.rest.now)) }
+{
+    let parts = send_parts(tokens)?;
+    if level >= MOST_OPEN {
+        return None;
+    }
+    let channel = names.channels.place(parts.name.bytes())?;
+    let number = i64::from(parts.number);
+    let value = Expr {
+        kind: Kind::Int,
+        form: ExprForm::Literal(number),
+    };
+    let term = Term {
+        at: first_offset(tokens),
+        form: Form::Send { channel, value },
+    };
+    Some(Read {
+        term,
+        rest: parts.rest,
+    })
 }
 
 /// The tokens after `while (true) {`.
@@ -121,7 +187,7 @@ fn loop_statement<'a>(
     level: u32,
     tokens: &'a [Placed],
 ) -> Result<Option<Read<'a>>, NoMemory>
-    requires names { AreNames (names_of names.now) }
+    requires names { IsSmall (names_of names.now) }
     requires within { level ≤ most_open }
     ensures { IfOk result (λ o. MatchOption o (NoLoop (names_of names.now) level (tokens_of tokens.now)) (λ r. Reads (names_of names.now) level (tokens_of tokens.now) (r.term ∷ []) (tokens_of r.rest.now))) }
 {
@@ -150,7 +216,7 @@ fn statement<'a>(
     level: u32,
     tokens: &'a [Placed],
 ) -> Result<Option<Read<'a>>, NoMemory>
-    requires names { AreNames (names_of names.now) }
+    requires names { IsSmall (names_of names.now) }
     requires within { level ≤ most_open }
     ensures { IfOk result (λ o. MatchOption o (NoStatement (names_of names.now) level (tokens_of tokens.now)) (λ r. Reads (names_of names.now) level (tokens_of tokens.now) (r.term ∷ []) (tokens_of r.rest.now))) }
 {
@@ -161,6 +227,12 @@ fn statement<'a>(
         return Ok(Some(read));
     }
     if let Some(read) = emit(names, tokens) {
+        return Ok(Some(read));
+    }
+    if let Some(read) = send(names, level, tokens) {
+        return Ok(Some(read));
+    }
+    if let Some(read) = receive(names, tokens) {
         return Ok(Some(read));
     }
     loop_statement(alloc, names, level, tokens)
@@ -174,7 +246,7 @@ pub fn block<'a>(
     level: u32,
     tokens: &'a [Placed],
 ) -> Result<Option<Body<'a>>, NoMemory>
-    requires names { AreNames (names_of names.now) }
+    requires names { IsSmall (names_of names.now) }
     requires within { level ≤ most_open }
     ensures { IfOk result (λ o. MatchOption o (NoBlock (names_of names.now) level (tokens_of tokens.now)) (λ b. IsRead (names_of names.now) level (tokens_of tokens.now) b.terms.items (tokens_of b.rest.now))) }
 {

@@ -1,7 +1,8 @@
-ghost use Rattle.std.specs.Prelude.{◌≡◌, ◌∷◌, MatchOption, MatchBool, IfSome};
-ghost use Rattle.sj_main.specs.declared.token.Token.TheVariants.{Reserved, Sign, Name};
+ghost use Rattle.std.specs.Prelude.{◌≡◌, ◌∷◌, true, MatchOption, MatchBool, IfSome};
+ghost use Rattle.sj_main.specs.BuiltTerms.{is_int};
+ghost use Rattle.sj_main.specs.declared.token.Token.TheVariants.{Reserved, Sign, Name, Number};
 ghost use Rattle.sj_main.specs.ReadingTokens.{tokens_of};
-ghost use Rattle.sj_main.specs.ReadingBlocks.{BeginsNot, BeginsNoName, IsNot, IsNoName};
+ghost use Rattle.sj_main.specs.ReadingBlocks.{BeginsNot, BeginsNoName, BeginsNoNumber, IsNot, IsNoName, IsNoNumber};
 
 use crate::reader::lexer::Placed;
 use crate::token::{Mark, Token, Word};
@@ -14,6 +15,7 @@ fn is_sign(token: &Token, wanted: Mark) -> bool
         Token::Sign(mark) => *mark == wanted,
         Token::Reserved(_) => false,
         Token::Name(_) => false,
+        Token::Number(_) => false,
     }
 }
 
@@ -24,6 +26,7 @@ fn is_word(token: &Token, wanted: Word) -> bool
         Token::Reserved(word) => *word == wanted,
         Token::Sign(_) => false,
         Token::Name(_) => false,
+        Token::Number(_) => false,
     }
 }
 
@@ -32,6 +35,19 @@ fn name_of(token: &Token) -> Option<&Text>
 {
     match token {
         Token::Name(name) => Some(name),
+        Token::Sign(_) => None,
+        Token::Reserved(_) => None,
+        Token::Number(_) => None,
+    }
+}
+
+fn number_of(token: &Token) -> Option<i32>
+    ensures number { MatchOption result (IsNoNumber token.now) (λ n. token.now ≡ Number n) }
+    ensures range { IfSome result (λ n. is_int n ≡ true) }
+{
+    match token {
+        Token::Number(number) => Some(*number),
+        Token::Name(_) => None,
         Token::Sign(_) => None,
         Token::Reserved(_) => None,
     }
@@ -75,4 +91,21 @@ pub fn first_name(tokens: &[Placed]) -> Option<Named<'_>>
     let (first, rest) = tokens.split_first()?;
     let name = name_of(&first.token)?;
     Some(Named { name, rest })
+}
+
+/// A number, and the tokens after it.
+#[derive(Clone, Copy)]
+pub struct Numbered<'a> {
+    pub number: i32,
+    pub rest: &'a [Placed],
+}
+
+/// The number that the tokens begin with.
+pub fn first_number(tokens: &[Placed]) -> Option<Numbered<'_>>
+    ensures number { MatchOption result (BeginsNoNumber (tokens_of tokens.now)) (λ n. tokens_of tokens.now ≡ Number n.number ∷ tokens_of n.rest.now) }
+    ensures range { IfSome result (λ n. is_int n.number ≡ true) }
+{
+    let (first, rest) = tokens.split_first()?;
+    let number = number_of(&first.token)?;
+    Some(Numbered { number, rest })
 }

@@ -16,7 +16,7 @@ pub fn is_letter(byte: u8) -> bool
     (b'A' <= byte && byte <= b'Z') || ((b'a' <= byte && byte <= b'z') || byte == b'_')
 }
 
-fn is_word_byte(byte: u8) -> bool
+pub fn is_word_byte(byte: u8) -> bool
     ensures { result ≡ is_word_byte byte }
 {
     is_letter(byte) || (b'0' <= byte && byte <= b'9')
@@ -136,6 +136,12 @@ fn reserved_word(word: &[u8]) -> Option<Word>
     if word == b"signal".as_slice() {
         return Some(Word::Signal);
     }
+    if word == b"int".as_slice() {
+        return Some(Word::Int);
+    }
+    if word == b"channel".as_slice() {
+        return Some(Word::Channel);
+    }
     if word == b"emit".as_slice() {
         return Some(Word::Emit);
     }
@@ -147,6 +153,12 @@ fn reserved_word(word: &[u8]) -> Option<Word>
     }
     if word == b"true".as_slice() {
         return Some(Word::True);
+    }
+    if word == b"send".as_slice() {
+        return Some(Word::Send);
+    }
+    if word == b"receive".as_slice() {
+        return Some(Word::Receive);
     }
     None
 }

@@ -1,16 +1,22 @@
-use Rattle.std.proofs.Common.{◌≡◌, ℕ, List, subst}
-use Rattle.std.specs.Prelude.{Option, Some, None, IfSome}
-use Rattle.sj_main.specs.declared.order.Made.{Made}
-use Rattle.tick_log.specs.RunText.{run_state}
-use Rattle.sj_main.specs.Rules.{RunsAs}
-use Rattle.sj_main.specs.Orders.{IsMadeFrom}
+use Rattle.std.proofs.Common.{subst}
+use Rattle.std.specs.Prelude.{IfSome}
+use Rattle.sj_main.specs.Rules.{Accepts}
+use Rattle.sj_main.specs.Orders.{IsMadeFrom, IsWhy}
+use Rattle.sj_main.proofs.OrderLemmas.{made_from, why, told_such, passed_on}
 use Rattle.sj_main.proofs.order.order.Goals as goal
 
-made : (told : Option (List ℕ)) (bytes : List ℕ) (turns : ℕ) (made : Made) → IfSome told (λ all. bytes ≡ all) → RunsAs bytes made.system turns (run_state made.run) → IfSome told (λ all. IsMadeFrom all turns made)
-made None bytes turns m h r = tt
-made (Some all) bytes turns m h r = subst (λ b. IsMadeFrom b turns m) h (record { program = r.accepts.read.program; source = r.accepts.source; tables = r.accepts.read.tables; last = r.last; scheduled = r.scheduled })
+pub returns-in_err-run-clause-why : goal.returns-in_err-run-clause-why
+returns-in_err-run-clause-why g c =
+    let accepts = subst (λ b. Accepts b c.in-Some.system) c.deref.ensures.value (rw c.in-Some.is at c.in_ok-system.ensures) in
+    passed_on c.from_residual-in_err-run.result c.in_err-run.field-0.0 (λ e. IfSome (g.F.Files.told c.args.files.now c.args.file.now) (λ bytes. IsWhy bytes c.args.turns.now e))
+    c.from_residual-in_err-run.ensures.1
+    (told_such (g.F.Files.told c.args.files.now c.args.file.now) c.in-Ok.bytes.items (λ bytes. IsWhy bytes c.args.turns.now c.in_err-run.field-0.0) c.in-Ok.ensures.whole
+    (why c.in-Ok.bytes.items c.in-Some.system c.args.turns.now c.in_err-run.field-0.0 accepts c.in_err-run.ensures.why))
 
-pub returns-in-Ok-run_of-clause-made : goal.returns-in-Ok-run_of-clause-made
-returns-in-Ok-run_of-clause-made g c =
-    made (g.F.Files.told c.args.files.now c.args.file.now) c.in-Ok.bytes.items c.args.turns (record { system = c.in_ok-system.system; run = c.in-Ok-run_of.run' }) c.in-Ok.ensures.whole
-    (subst (λ b. RunsAs b c.in_ok-system.system c.args.turns (run_state c.in-Ok-run_of.run')) c.deref-2.ensures.value c.in-Ok-run_of.ensures.runs)
+pub returns-clause-made : goal.returns-clause-made
+returns-clause-made g c =
+    let accepts = subst (λ b. Accepts b c.in-Some.system) c.deref.ensures.value (rw c.in-Some.is at c.in_ok-system.ensures) in
+    told_such (g.F.Files.told c.args.files.now c.args.file.now) c.in-Ok.bytes.items
+    (λ bytes. IsMadeFrom bytes c.args.turns.now (record { system = c.in-Some.system; run = c.in_ok-run.run' }))
+    c.in-Ok.ensures.whole
+    (made_from c.in-Ok.bytes.items c.args.turns.now (record { system = c.in-Some.system; run = c.in_ok-run.run' }) accepts c.in_ok-run.ensures.runs)

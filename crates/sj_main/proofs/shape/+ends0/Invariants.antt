@@ -1,6 +1,6 @@
 use Rattle.std.proofs.Common.{◌≡◌, map, drop}
-use Rattle.sj_main.specs.definitions.Plain.{plain}
-use Rattle.sj_main.specs.Build.{all_end0}
+use Rattle.domain_core.specs.BuiltForms.{plain}
+use Rattle.sj_main.specs.Shapes.{all_end0}
 use Rattle.sj_main.proofs.shape.+ends0.Given as goal
 
 abbrev pub invariant-all_end0-loop-part : goal.invariant-all_end0-loop-part

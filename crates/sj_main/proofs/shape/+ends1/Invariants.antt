@@ -1,6 +1,6 @@
 use Rattle.std.proofs.Common.{◌≡◌, ◌&&◌, ◌||◌, map, drop}
-use Rattle.sj_main.specs.definitions.Plain.{plain}
-use Rattle.sj_main.specs.Build.{all_end0, any_end1}
+use Rattle.domain_core.specs.BuiltForms.{plain}
+use Rattle.sj_main.specs.Shapes.{all_end0, any_end1}
 use Rattle.sj_main.proofs.shape.+ends1.Given as goal
 
 abbrev pub invariant-any_end1-loop-part : goal.invariant-any_end1-loop-part

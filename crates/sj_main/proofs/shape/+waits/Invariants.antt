@@ -1,5 +1,5 @@
 use Rattle.std.proofs.Common.{◌↔◌, map, drop}
-use Rattle.sj_main.specs.definitions.Plain.{plain}
+use Rattle.domain_core.specs.BuiltForms.{plain}
 use Rattle.sj_main.specs.Shapes.{AllLoopsWait}
 use Rattle.sj_main.proofs.shape.+waits.Given as goal
 

@@ -1,5 +1,5 @@
 use Rattle.std.proofs.Common.{map, drop}
-use Rattle.sj_main.specs.definitions.Plain.{plain}
+use Rattle.domain_core.specs.BuiltForms.{plain}
 use Rattle.sj_main.specs.Weights.{starting_rest, resuming_rest, Weighs}
 use Rattle.sj_main.proofs.weight.+weigh.Given as goal
 

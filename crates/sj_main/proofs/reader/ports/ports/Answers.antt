@@ -1,7 +1,10 @@
 use Rattle.sj_main.specs.ReadingTokens.{tokens_of}
 use Rattle.sj_main.specs.ReadingNames.{names_of}
-use Rattle.sj_main.proofs.ReadPrograms.{ports_end, ports_none, ports_refused, ports_more}
+use Rattle.sj_main.proofs.ReadPorts.{ports_start, ports_end, ports_none, refused_of, more_of, reach_small, front_less}
 use Rattle.sj_main.proofs.reader.ports.ports.Goals as goal
+
+pub loop-rest-init : goal.loop-rest-init
+loop-rest-init c = ports_start (tokens_of c.args.tokens.now) (names_of c.new-names.result) c.new-names.ensures.signals c.new-names.ensures.channels
 
 pub returns-in-Some : goal.returns-in-Some
 returns-in-Some c = ports_end (tokens_of c.args.tokens.now) (tokens_of c.loop-rest.front.now) (tokens_of c.in-Some.rest.now) (names_of c.loop-rest.names) c.loop-rest.invariant c.in-Some.ensures
@@ -9,13 +12,19 @@ returns-in-Some c = ports_end (tokens_of c.args.tokens.now) (tokens_of c.loop-re
 pub returns-in_default-port : goal.returns-in_default-port
 returns-in_default-port c = ports_none (tokens_of c.args.tokens.now) (tokens_of c.loop-rest.front.now) (names_of c.loop-rest.names) c.loop-rest.invariant c.in_default.ensures c.in_default-port.ensures
 
+pub declare-requires : goal.declare-requires
+declare-requires c = record { small = reach_small (tokens_of c.args.tokens.now) (tokens_of c.loop-rest.front.now) (names_of c.loop-rest.names) c.loop-rest.invariant c.requires }
+
 pub returns-then-not-branch : goal.returns-then-not-branch
 returns-then-not-branch c =
     let r = rw c.bytes.ensures at (rw c.if-not-branch.true at c.in_ok-declare.ensures) in
-    ports_refused (tokens_of c.args.tokens.now) (tokens_of c.loop-rest.front.now) (tokens_of c.in-Some-port.found.rest.now) (names_of c.loop-rest.names) c.in-Some-port.found.name.now c.loop-rest.invariant c.in-Some-port.ensures r
+    refused_of (tokens_of c.args.tokens.now) (tokens_of c.loop-rest.front.now) (tokens_of c.in-Some-port.found.rest.now) (names_of c.loop-rest.names) c.in-Some-port.found.kind c.in-Some-port.found.name.now c.loop-rest.invariant c.in-Some-port.ensures r
 
 pub loop-rest-preserved : goal.loop-rest-preserved
 loop-rest-preserved c =
     let r = rw c.bytes.ensures at (rw c.if-not-branch.false at c.in_ok-declare.ensures) in
-    ports_more (tokens_of c.args.tokens.now) (tokens_of c.loop-rest.front.now) (tokens_of c.in-Some-port.found.rest.now) (names_of c.loop-rest.names) (names_of c.declare.new.self) c.in-Some-port.found.name.now
+    more_of (tokens_of c.args.tokens.now) (tokens_of c.loop-rest.front.now) (tokens_of c.in-Some-port.found.rest.now) (names_of c.loop-rest.names) (names_of c.declare.new.self) c.in-Some-port.found.kind c.in-Some-port.found.name.now
     c.loop-rest.invariant c.in-Some-port.ensures r
+
+pub loop-rest-smaller : goal.loop-rest-smaller
+loop-rest-smaller c = front_less (tokens_of c.loop-rest.front.now) (tokens_of c.in-Some-port.found.rest.now) c.in-Some-port.found.kind c.in-Some-port.found.name.now c.in-Some-port.ensures

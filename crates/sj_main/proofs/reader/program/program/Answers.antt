@@ -1,32 +1,41 @@
+use Rattle.std.proofs.Common.{◌∙◌, ◌≤◌, length, arith, ap}
+use Rattle.kernel_terms.specs.Limits.{most_channels}
+use Rattle.kernel_terms.specs.WellFormed.{is_well_formed}
 use Rattle.sj_main.specs.ReadingTokens.{tokens_of}
 use Rattle.sj_main.specs.ReadingNames.{names_of}
-use Rattle.sj_main.proofs.ReadPrograms.{program_open, program_block, program_end, program_named, program_read}
+use Rattle.sj_main.proofs.ReadPrograms.{program_channels, program_domains, program_owners, program_formed, program_read}
 use Rattle.sj_main.proofs.reader.program.program.Goals as goal
 
-pub returns-in_default-after_sign : goal.returns-in_default-after_sign
-returns-in_default-after_sign c =
+pub returns-then-len-gt-MOST_CHANNELS : goal.returns-then-len-gt-MOST_CHANNELS
+returns-then-len-gt-MOST_CHANNELS c =
     let r = rw c.in-Some-2.is at c.in_ok-names.ensures in
-    program_open (tokens_of c.args.tokens.now) (tokens_of c.in-Some.inner.now) (tokens_of c.in-Some-2.field-0.rest.now) (names_of c.in-Some-2.field-0.names) c.in-Some.ensures r c.in_default-after_sign.ensures
+    program_channels (tokens_of c.args.tokens.now) (tokens_of c.in-Some.inner.now) (tokens_of c.in-Some-2.field-0.rest.now) (names_of c.in-Some-2.field-0.names) c.in-Some.ensures r (let l = c.if-len-gt-MOST_CHANNELS.true in let k = c.len.ensures in omega arith)
 
 pub returns-in_default-3 : goal.returns-in_default-3
 returns-in_default-3 c =
     let r = rw c.in-Some-2.is at c.in_ok-names.ensures in
-    program_block (tokens_of c.args.tokens.now) (tokens_of c.in-Some.inner.now) (tokens_of c.in-Some-2.field-0.rest.now) (tokens_of c.in-Some-after_sign.opened.now) (names_of c.in-Some-2.field-0.names) c.in-Some.ensures r c.in-Some-after_sign.ensures (rw c.in_default-3.is at c.in_ok-terms.ensures)
+    program_domains (tokens_of c.args.tokens.now) (tokens_of c.in-Some.inner.now) (tokens_of c.in-Some-2.field-0.rest.now) (names_of c.in-Some-2.field-0.names) c.in-Some.ensures r (rw c.in_default-3.is at c.in_ok-terms.ensures)
 
-pub returns-then-not-ends_program : goal.returns-then-not-ends_program
-returns-then-not-ends_program c =
+pub returns-in_default-4 : goal.returns-in_default-4
+returns-in_default-4 c =
     let r = rw c.in-Some-2.is at c.in_ok-names.ensures in
-    let b = rw c.in-Some-3.is at c.in_ok-terms.ensures in
-    program_end (tokens_of c.args.tokens.now) (tokens_of c.in-Some.inner.now) (tokens_of c.in-Some-2.field-0.rest.now) (tokens_of c.in-Some-after_sign.opened.now) (tokens_of c.in-Some-3.field-0.rest.now) (names_of c.in-Some-2.field-0.names) c.in-Some-3.field-0.terms.items c.in-Some.ensures r c.in-Some-after_sign.ensures b (rw c.if-not-ends_program.true at c.ends_program.ensures)
+    let d = rw c.in-Some-3.is at c.in_ok-terms.ensures in
+    let b = rw c.deref.ensures.value at (rw c.in_default-4.is at c.in_ok-tables.ensures) in
+    program_owners (tokens_of c.args.tokens.now) (tokens_of c.in-Some.inner.now) (tokens_of c.in-Some-2.field-0.rest.now) (names_of c.in-Some-2.field-0.names) c.in-Some-3.terms.items c.in-Some.ensures r d b
 
-pub make_system-requires-clause-named : goal.make_system-requires-clause-named
-make_system-requires-clause-named c =
+pub new-requires : goal.new-requires
+new-requires c =
     let r = rw c.in-Some-2.is at c.in_ok-names.ensures in
-    let b = rw c.in-Some-3.is at c.in_ok-terms.ensures in
-    program_named (tokens_of c.args.tokens.now) (tokens_of c.in-Some.inner.now) (tokens_of c.in-Some-2.field-0.rest.now) (tokens_of c.in-Some-after_sign.opened.now) (tokens_of c.in-Some-3.field-0.rest.now) (names_of c.in-Some-2.field-0.names) c.in-Some-3.field-0.terms.items c.requires c.in-Some.ensures r c.in-Some-after_sign.ensures b (rw c.if-not-ends_program.false at c.ends_program.ensures)
+    let d = rw c.in-Some-3.is at c.in_ok-terms.ensures in
+    let t = rw c.deref.ensures.value at (rw c.in-Some-4.is at c.in_ok-tables.ensures) in
+    let few : length (names_of c.in-Some-2.field-0.names).channels ≤ most_channels = (let l = c.if-len-gt-MOST_CHANNELS.false in let k = c.len.ensures in omega arith) in
+    ap (is_well_formed c.in-Some-4.tables) c.from_vec.ensures
+    ∙ program_formed (tokens_of c.args.tokens.now) (tokens_of c.in-Some.inner.now) (tokens_of c.in-Some-2.field-0.rest.now) (names_of c.in-Some-2.field-0.names) c.in-Some-3.terms.items c.in-Some-4.tables c.requires.named c.in-Some.ensures r few d t
 
 pub returns : goal.returns
 returns c =
     let r = rw c.in-Some-2.is at c.in_ok-names.ensures in
-    let b = rw c.in-Some-3.is at c.in_ok-terms.ensures in
-    program_read (tokens_of c.args.tokens.now) (tokens_of c.in-Some.inner.now) (tokens_of c.in-Some-2.field-0.rest.now) (tokens_of c.in-Some-after_sign.opened.now) (tokens_of c.in-Some-3.field-0.rest.now) (names_of c.in-Some-2.field-0.names) c.in-Some-3.field-0.terms.items c.in_ok-system.system c.in-Some.ensures r c.in-Some-after_sign.ensures b (rw c.if-not-ends_program.false at c.ends_program.ensures) c.in_ok-system.ensures
+    let d = rw c.in-Some-3.is at c.in_ok-terms.ensures in
+    let t = rw c.deref.ensures.value at (rw c.in-Some-4.is at c.in_ok-tables.ensures) in
+    let few : length (names_of c.in-Some-2.field-0.names).channels ≤ most_channels = (let l = c.if-len-gt-MOST_CHANNELS.false in let k = c.len.ensures in omega arith) in
+    program_read (tokens_of c.args.tokens.now) (tokens_of c.in-Some.inner.now) (tokens_of c.in-Some-2.field-0.rest.now) (names_of c.in-Some-2.field-0.names) c.in-Some-3.terms.items c.in-Some-4.tables c.new.result c.in-Some.ensures r few d t c.new.ensures.tables (c.new.ensures.domains ∙ c.from_vec.ensures)

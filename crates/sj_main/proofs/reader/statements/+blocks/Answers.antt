@@ -1,10 +1,8 @@
 use Rattle.std.proofs.Common.{refl, [], ◌∷◌}
 use Rattle.kernel_terms.specs.declared.term.Term as term
 use Rattle.kernel_terms.specs.declared.term.Form as form
-use Rattle.sj_main.proofs.PlainLayers.{plain-Loop}
 use Rattle.sj_main.specs.ReadingTokens.{tokens_of}
 use Rattle.sj_main.specs.ReadingNames.{names_of}
-use Rattle.sj_main.proofs.ReadTerms.{fits-Loop}
 use Rattle.std.specs.Option.{MatchOption}
 use Rattle.std.proofs.lemmas.Result.{IfOk-weaker}
 use Rattle.sj_main.specs.ReadingBlocks.{Reads, NoLoop, NoStatement}
@@ -25,12 +23,12 @@ loop_statement-returns t c =
     let x : term.Term = term.roll-Term (record { at = c.first_offset-2.result; form = form.Loop c.in_ok-body.body }) in
     let r = rw c.in-Some-2.is at c.in_ok-terms.ensures in
     reads_loop_of (names_of c.args.names.now) c.args.level (tokens_of c.args.tokens.now) (tokens_of c.in-Some.inner.now) (tokens_of c.in-Some-2.field-0.rest.now) c.in-Some-2.field-0.terms.items x c.in_ok-body.body
-    c.in-Some.ensures r (rw c.in_ok-body.ensures c.sequence.ensures) (plain-Loop x c.in_ok-body.body refl) (λ n. fits-Loop n x c.in_ok-body.body refl)
+    c.in-Some.ensures r (rw c.in_ok-body.ensures c.sequence.ensures) refl
 
 pub statement-returns : goal.statement-returns
 statement-returns t c = IfOk-weaker c.loop_statement.result
     (λ o. MatchOption o (NoLoop (names_of c.args.names.now) c.args.level (tokens_of c.args.tokens.now)) (λ r. Reads (names_of c.args.names.now) c.args.level (tokens_of c.args.tokens.now) (r.term ∷ []) (tokens_of r.rest.now)))
     (λ o. MatchOption o (NoStatement (names_of c.args.names.now) c.args.level (tokens_of c.args.tokens.now)) (λ r. Reads (names_of c.args.names.now) c.args.level (tokens_of c.args.tokens.now) (r.term ∷ []) (tokens_of r.rest.now)))
     (λ o h. option_weaker o (λ r. Reads (names_of c.args.names.now) c.args.level (tokens_of c.args.tokens.now) (r.term ∷ []) (tokens_of r.rest.now))
-    (λ n. no_statement (names_of c.args.names.now) c.args.level (tokens_of c.args.tokens.now) c.in_default.ensures c.in_default-pause.ensures c.in_default-emit.ensures n) h)
+    (λ n. no_statement (names_of c.args.names.now) c.args.level (tokens_of c.args.tokens.now) c.in_default.ensures c.in_default-pause.ensures c.in_default-emit.ensures c.in_default-send.ensures c.in_default-receive.ensures n) h)
     c.loop_statement.ensures

@@ -1,0 +1,17 @@
+pub mod DomainEnds
+pub mod Answered
+pub mod Effects
+pub mod AtChannel
+pub mod Facing
+pub mod Stages
+pub mod AllStages
+pub mod OwnStep
+pub mod WholeTurn
+pub mod RunTurns
+pub mod Moved
+pub mod Rooms
+pub mod Fitting
+pub mod BetweenTurns
+pub mod Opened
+pub mod Starting
+pub mod Finished

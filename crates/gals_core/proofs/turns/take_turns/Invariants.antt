@@ -1,0 +1,6 @@
+use Rattle.std.proofs.Common.{drop}
+use Rattle.gals_core.specs.OrderRuns.{IsBetweenTurns}
+use Rattle.gals_core.proofs.turns.take_turns.Given as goal
+
+abbrev pub invariant-loop-at : goal.invariant-loop-at
+invariant-loop-at l = IsBetweenTurns l.system l.turns (drop l.at l.turns) l.domains.items l.channels

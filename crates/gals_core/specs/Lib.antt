@@ -1,0 +1,5 @@
+pub mod Channels
+pub mod Worlds
+pub mod OrderRuns
+pub mod Opening
+pub mod OrderPlans

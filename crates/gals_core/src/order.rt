@@ -1,0 +1,115 @@
+// Plans of scheduled runs, and the runs that they give.
+
+ghost use Rattle.std.specs.Prelude.{◌≡◌, ◌<◌, ◌≤◌, ◌+◌, ◌++◌, ◌∷◌, [], length, IfOk};
+ghost use Rattle.std.specs.Prelude.{vec_len, vec_capacity};
+ghost use Rattle.tick_log.specs.RunText.{run_state};
+ghost use Rattle.gals_core.specs.OrderPlans.{AreDomainsOf, AreBudgets, FitBudgets};
+ghost use Rattle.gals_core.specs.OrderPlans.{IsOrderRun, logs_of};
+
+use crate::channels::Channels;
+use crate::opening::reserve_all;
+use crate::turns::take_turns;
+use domain_core::Domain;
+use java_values::NoMemory;
+use kernel_terms::System;
+use std::alloc::Global;
+use std::marker::Model;
+use std::snapshot::Snapshot;
+use tick_log::{Log, Run};
+
+/// A scheduled run that may be made: the domains of a system before their first ticks, the number
+/// of ticks that each may make, and all the memory that the run needs.
+#[derive(Drop)]
+pub struct OrderPlan {
+    system: Snapshot<System>,
+    ticks: Vec<u32>,
+    domains: Vec<Domain>,
+    channels: Channels,
+    logs: Vec<Log>,
+}
+
+impl Model for OrderPlan {
+    ghost use Rattle.gals_core.specs.OrderPlans.{PlanView, IsReady};
+    ghost use Rattle.kernel_terms.specs.contracts.term.Term as term;
+    ghost use Rattle.std.specs.Coded.{codes};
+
+    ghost Value = { PlanView };
+
+    ghost coded = { Prim.hlevel (codes, term.the_row.coded) };
+
+    ghost view = { λ p. record { system = p.system.value; ticks = p.ticks.items } };
+
+    ghost invariant = { λ p. IsReady p.system.value p.ticks.items p.domains.items p.channels p.logs };
+}
+
+impl OrderPlan {
+    /// The plan of these domains of a system, each of which makes at most its number of ticks. All
+    /// the memory of the run is taken here: `NoMemory` says that it was refused.
+    pub fn open(
+        alloc: Global,
+        system: &System,
+        domains: Vec<Domain>,
+        ticks: &[u32],
+    ) -> Result<OrderPlan, NoMemory>
+        requires domains { AreDomainsOf system.now domains.items }
+        requires ticks { AreBudgets system.now ticks.now }
+        ensures { IfOk result (λ plan. plan ≡ record { system = system.now; ticks = ticks.now }) }
+    {
+        let channels = Channels::open(alloc, system, domains.as_slice(), ticks)?;
+        let logs = Vec::with_capacity(alloc, domains.len())?;
+        let budgets = ticks.to_vec(alloc)?;
+        let mut domains = domains;
+        reserve_all(&mut domains, ticks)?;
+        Ok(OrderPlan {
+            system: Snapshot::of(system),
+            ticks: budgets,
+            domains,
+            channels,
+            logs,
+        })
+    }
+}
+
+// Adds a log, into memory that is there already.
+fn push_within(logs: &mut Vec<Log>, log: Log)
+    requires { vec_len logs.old < vec_capacity logs.old }
+    ensures items { logs.new.items ≡ logs.old.items ++ log ∷ [] }
+    ensures len { vec_len logs.new ≡ vec_len logs.old + 1 }
+    ensures capacity { vec_capacity logs.old ≤ vec_capacity logs.new }
+{
+    let _ = logs.push(log);
+}
+
+// The logs of the domains, moved into a list with memory for them.
+fn into_logs(domains: Vec<Domain>, room: Vec<Log>) -> Vec<Log>
+    requires empty { room.items ≡ [] }
+    requires room { length domains.items ≤ vec_capacity room }
+    ensures { result.items ≡ logs_of domains.items }
+{
+    let mut logs = room;
+    for domain in domains {
+        push_within(&mut logs, domain.into_log());
+    }
+    logs
+}
+
+/// The run in which the domains take these turns, none more than its number of ticks. The turn of
+/// an ended domain is skipped, and after each tick the domain's channels whose two ends wait are
+/// joined, the smallest number first. It takes no memory.
+pub fn run_order(system: &System, plan: OrderPlan, turns: &[u32]) -> Run
+    requires system { plan.system ≡ system.now }
+    requires turns { FitBudgets plan.ticks turns.now }
+    ensures { IsOrderRun system.now turns.now (run_state result) }
+{
+    let OrderPlan {
+        mut domains,
+        mut channels,
+        logs,
+        ..
+    } = plan;
+    take_turns(system, turns, &mut domains, &mut channels);
+    Run {
+        domains: into_logs(domains, logs),
+        channels: channels.into_histories(),
+    }
+}

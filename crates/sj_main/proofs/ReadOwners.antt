@@ -1,0 +1,390 @@
+-- Which domain each signal and channel belongs to.
+use Rattle.std.proofs.Common.{◌≡◌, ◌≢◌, ℕ, zero, suc, ◌+◌, ◌<◌, Bool, true, false, ◌&&◌, ◌||◌, ◌==◌, nat_lt, cond, List, [], ◌∷◌, ◌++◌, length, map, drop, get_or, Option, Some, None, ap, refl, sym, ◌∙◌, subst, append_assoc, arith, add-one, length-append, append-nil, inl, inr, ◌⊎◌, nat_eq}
+use Rattle.std.proofs.Math.Seq.{drop-cons}
+use Rattle.std.specs.Prelude.{MatchBool}
+use Rattle.std.proofs.lemmas.Bool.Decides.{nat_tests}
+use Rattle.std.proofs.lemmas.List.Folds.{list_any-append}
+use Rattle.kernel_terms.specs.declared.term.Term.{Term}
+use Rattle.kernel_terms.specs.declared.term.Form as form
+use Rattle.kernel_terms.specs.WellFormed.{stands_in}
+use Rattle.sj_main.specs.declared.reader.owners.Role.{Role}
+use Rattle.sj_main.specs.declared.reader.owners.Role.TheVariants as role
+use Rattle.sj_main.specs.BuiltTerms.{is_int, is_within, AreBuilt}
+use Rattle.domain_core.specs.BuiltForms.{Plain, Nothing, Pause, Emit, Seq, Loop, Send, Receive, sequence, sequence_from, plain}
+use Rattle.sj_main.specs.definitions.Programs.{Interface, emits_of, sends_of, receives_of, first_with}
+use Rattle.sj_main.specs.definitions.Accepted.{Uses}
+use Rattle.sj_main.specs.ReadingOwners.{numbers_of, numbers_of_all, is_role, if_role, limit_of, AreBelow, Marked, IsContested, MarksReach, AreOwners, IsShared, OwnersReach, OwnersFound, AreUnowned}
+use Rattle.domain_core.proofs.BuiltLayers.{plain-Seq}
+use Rattle.sj_main.proofs.Lists.{split_first}
+
+-- what stands in a list
+
+stands_both : (n : ℕ) (xs ys : List ℕ) → stands_in n (xs ++ ys) ≡ (stands_in n xs || stands_in n ys)
+stands_both n xs ys = list_any-append (λ m. m == n) xs ys
+
+either : (a b : Bool) → (a || b) ≡ true → (a ≡ true) ⊎ (b ≡ true)
+either true b h = inl refl
+either false b h = inr h
+
+or_first : (a b : Bool) → a ≡ true → (a || b) ≡ true
+or_first a b h = ap (λ x. x || b) h
+
+or_second : (a b : Bool) → b ≡ true → (a || b) ≡ true
+or_second true b h = refl
+or_second false b h = h
+
+pub below_first : (xs ys : List ℕ) (limit : ℕ) → AreBelow (xs ++ ys) limit → AreBelow xs limit
+below_first xs ys limit b = record { below = λ n h. b.below n (stands_both n xs ys ∙ or_first (stands_in n xs) (stands_in n ys) h) }
+
+pub below_second : (xs ys : List ℕ) (limit : ℕ) → AreBelow (xs ++ ys) limit → AreBelow ys limit
+below_second xs ys limit b = record { below = λ n h. b.below n (stands_both n xs ys ∙ or_second (stands_in n xs) (stands_in n ys) h) }
+
+below_both : (xs ys : List ℕ) (limit : ℕ) → AreBelow xs limit → AreBelow ys limit → AreBelow (xs ++ ys) limit
+below_both xs ys limit a b = record { below = λ n h. pick n (either (stands_in n xs) (stands_in n ys) (sym (stands_both n xs ys) ∙ h)) }
+  where
+    pick : (n : ℕ) → (stands_in n xs ≡ true) ⊎ (stands_in n ys ≡ true) → n < limit
+    pick n (inl h) = a.below n h
+    pick n (inr h) = b.below n h
+
+none_below : (limit : ℕ) → AreBelow [] limit
+none_below limit = record { below = λ n h. absurd (apart h) }
+  where
+    apart : false ≡ true → ⊥
+    apart h = cc
+
+same_number : (m n : ℕ) → ((m == n) || false) ≡ true → m ≡ n
+same_number m n h = grind (arith, nat_tests)
+
+is_itself : (n : ℕ) → ((n == n) || false) ≡ true
+is_itself n = grind (arith, nat_tests)
+
+one_below : (m limit : ℕ) → m < limit → AreBelow (m ∷ []) limit
+one_below m limit l = record { below = λ n h. let e = same_number m n h in omega arith }
+
+pub if_below : (r w : Role) (n limit : ℕ) → is_role r w ≡ true → AreBelow (if_role r w n) limit → n < limit
+if_below r w n limit h b = b.below n (ap (λ c. stands_in n (cond c (n ∷ []) [])) h ∙ is_itself n)
+
+-- marks on one list of numbers, and on more
+
+pub marked_none : (d : ℕ) (old : List (Option ℕ)) → Marked d old old []
+marked_none d old = record { is = λ n. refl; free = λ n o h. absurd (apart h); size = refl }
+  where
+    apart : false ≡ true → ⊥
+    apart h = cc
+
+two_conds : (a b : Bool) (x y : Option ℕ) → cond b x (cond a x y) ≡ cond (a || b) x y
+two_conds true true x y = refl
+two_conds true false x y = refl
+two_conds false b x y = refl
+
+some_same : (a b : ℕ) → Some a ≡ Some b → a ≡ b
+some_same a b h = cc
+
+marked_both : (d : ℕ) (old mid new : List (Option ℕ)) (xs ys : List ℕ) → Marked d old mid xs → Marked d mid new ys → Marked d old new (xs ++ ys)
+marked_both d old mid new xs ys a b = record {
+  is = λ n. b.is n ∙ ap (λ o. cond (stands_in n ys) (Some d) o) (a.is n) ∙ two_conds (stands_in n xs) (stands_in n ys) (Some d) (get_or old n None) ∙ ap (λ c. cond c (Some d) (get_or old n None)) (sym (stands_both n xs ys));
+  free = λ n o h e. pick n o e (stands_in n xs) refl (either (stands_in n xs) (stands_in n ys) (sym (stands_both n xs ys) ∙ h));
+  size = b.size ∙ a.size;
+}
+  where
+    pick : (n o : ℕ) → get_or old n None ≡ Some o → (c : Bool) → stands_in n xs ≡ c → (stands_in n xs ≡ true) ⊎ (stands_in n ys ≡ true) → o ≡ d
+    pick n o e true s h = a.free n o s e
+    pick n o e false s (inl h) = a.free n o h e
+    pick n o e false s (inr h) = b.free n o h (a.is n ∙ ap (λ c. cond c (Some d) (get_or old n None)) s ∙ e)
+
+contested_first : (d : ℕ) (old : List (Option ℕ)) (xs ys : List ℕ) → IsContested d old xs → IsContested d old (xs ++ ys)
+contested_first d old xs ys c = record { number = c.number; owner = c.owner; stands = stands_both c.number xs ys ∙ or_first (stands_in c.number xs) (stands_in c.number ys) c.stands; owned = c.owned; other = c.other }
+
+contested_second : (d : ℕ) (old mid : List (Option ℕ)) (xs ys : List ℕ) → Marked d old mid xs → IsContested d mid ys → IsContested d old (xs ++ ys)
+contested_second d old mid xs ys m c = record {
+  number = c.number;
+  owner = c.owner;
+  stands = stands_both c.number xs ys ∙ or_second (stands_in c.number xs) (stands_in c.number ys) c.stands;
+  owned = owned (stands_in c.number xs) refl;
+  other = c.other;
+}
+  where
+    owned : (b : Bool) → stands_in c.number xs ≡ b → get_or old c.number None ≡ Some c.owner
+    owned true s = absurd (c.other (some_same c.owner d (sym c.owned ∙ m.is c.number ∙ ap (λ x. cond x (Some d) (get_or old c.number None)) s)))
+    owned false s = sym (m.is c.number ∙ ap (λ x. cond x (Some d) (get_or old c.number None)) s) ∙ c.owned
+
+-- of one number
+
+same_default : (xs : List (Option ℕ)) (n : ℕ) (a b : Option ℕ) → n < length xs → get_or xs n a ≡ get_or xs n b
+same_default [] n a b l = absurd (omega arith)
+same_default (x ∷ xs) zero a b l = refl
+same_default (x ∷ xs) (suc n) a b l = same_default xs n a b (omega arith)
+
+claimed_already : (d n : ℕ) (old : List (Option ℕ)) → get_or old n None ≡ Some d → Marked d old old (n ∷ [])
+claimed_already d n old e = record { is = λ m. at m ((n == m) || false) refl; free = λ m o h g. (let s = same_number n m h in some_same o d (sym g ∙ ap (λ k. get_or old k None) (sym s) ∙ e)); size = refl }
+  where
+    at : (m : ℕ) (b : Bool) → ((n == m) || false) ≡ b → get_or old m None ≡ cond ((n == m) || false) (Some d) (get_or old m None)
+    at m true h = let s = same_number n m h in ap (λ k. get_or old k None) (sym s) ∙ e ∙ ap (λ b. cond b (Some d) (get_or old m None)) (sym h)
+    at m false h = ap (λ b. cond b (Some d) (get_or old m None)) (sym h)
+
+other_owner : (d n owner : ℕ) (old : List (Option ℕ)) → get_or old n None ≡ Some owner → owner ≢ d → IsContested d old (n ∷ [])
+other_owner d n owner old e o = record { number = n; owner = owner; stands = is_itself n; owned = e; other = o }
+
+eq_true : (a b : ℕ) → nat_eq a b ≡ true → a ≡ b
+eq_true a b h = grind (arith, nat_tests)
+
+eq_false : (a b : ℕ) → nat_eq a b ≡ false → a ≢ b
+eq_false a b h e = grind (arith, nat_tests)
+
+claim_by : (d n owner : ℕ) (old : List (Option ℕ)) (b : Bool) → nat_eq owner d ≡ b → get_or old n None ≡ Some owner → MatchBool b (Marked d old old (n ∷ [])) (IsContested d old (n ∷ []))
+claim_by d n owner old true h e = claimed_already d n old (e ∙ ap Some (eq_true owner d h))
+claim_by d n owner old false h e = other_owner d n owner old e (eq_false owner d h)
+
+pub claim_owned : (d n owner : ℕ) (old : List (Option ℕ)) (x : Option ℕ) → n < length old → x ≡ get_or old n x → x ≡ Some owner → MatchBool (nat_eq owner d) (Marked d old old (n ∷ [])) (IsContested d old (n ∷ []))
+claim_owned d n owner old x l is e = claim_by d n owner old (nat_eq owner d) refl (same_default old n None x l ∙ sym is ∙ e)
+
+-- of a term
+
+pub numbers-sequence_from : (r : Role) (p : Plain) (ps : List Plain) → numbers_of r (sequence_from p ps) ≡ numbers_of_all r (p ∷ ps)
+numbers-sequence_from role.Emitter p [] = sym (append-nil (emits_of p))
+numbers-sequence_from role.Sender p [] = sym (append-nil (sends_of p))
+numbers-sequence_from role.Receiver p [] = sym (append-nil (receives_of p))
+numbers-sequence_from role.Emitter p (q ∷ ps) = ap (λ l. emits_of p ++ l) (numbers-sequence_from role.Emitter q ps)
+numbers-sequence_from role.Sender p (q ∷ ps) = ap (λ l. sends_of p ++ l) (numbers-sequence_from role.Sender q ps)
+numbers-sequence_from role.Receiver p (q ∷ ps) = ap (λ l. receives_of p ++ l) (numbers-sequence_from role.Receiver q ps)
+
+numbers-Nothing : (r : Role) → numbers_of r Nothing ≡ []
+numbers-Nothing role.Emitter = refl
+numbers-Nothing role.Sender = refl
+numbers-Nothing role.Receiver = refl
+
+pub numbers-sequence : (r : Role) (ps : List Plain) → numbers_of r (sequence ps) ≡ numbers_of_all r ps
+numbers-sequence r [] = numbers-Nothing r
+numbers-sequence r (p ∷ ps) = numbers-sequence_from r p ps
+
+pub numbers-Seq : (r : Role) (t : Term) (v : List Term) → t.form ≡ form.Seq v → numbers_of r (plain t) ≡ numbers_of_all r (map plain v)
+numbers-Seq r t v h = ap (numbers_of r) (plain-Seq t v h) ∙ numbers-sequence r (map plain v)
+
+-- the parts of a sequence, one after another
+
+pub marks_start : (r : Role) (d : ℕ) (old : List (Option ℕ)) (all : List Term) → AreBelow (numbers_of_all r (map plain all)) (length old) → MarksReach r d old old all all
+marks_start r d old all b = record { done = []; parts = refl; marked = marked_none d old; within = b }
+
+pub marks_more : (r : Role) (d : ℕ) (old mid new : List (Option ℕ)) (all front rest : List Term) (p : Plain) → map plain front ≡ p ∷ map plain rest → MarksReach r d old mid all front → Marked d mid new (numbers_of r p) → MarksReach r d old new all rest
+marks_more r d old mid new all front rest p s m a =
+    let e = ap (numbers_of_all r) s in
+    record {
+      done = m.done ++ numbers_of r p;
+      parts = m.parts ∙ ap (λ l. m.done ++ l) e ∙ sym (append_assoc m.done (numbers_of r p) (numbers_of_all r (map plain rest)));
+      marked = marked_both d old mid new m.done (numbers_of r p) m.marked a;
+      within = below_second (numbers_of r p) (numbers_of_all r (map plain rest)) (length old) (subst (λ l. AreBelow l (length old)) e m.within);
+    }
+
+pub marks_stop : (r : Role) (d : ℕ) (old mid : List (Option ℕ)) (all front rest : List Term) (p : Plain) → map plain front ≡ p ∷ map plain rest → MarksReach r d old mid all front → IsContested d mid (numbers_of r p)
+    → IsContested d old (numbers_of_all r (map plain all))
+marks_stop r d old mid all front rest p s m c =
+    subst (λ l. IsContested d old l) (sym (m.parts ∙ ap (λ l. m.done ++ numbers_of_all r l) s))
+    (contested_second d old mid m.done (numbers_of r p ++ numbers_of_all r (map plain rest)) m.marked (contested_first d mid (numbers_of r p) (numbers_of_all r (map plain rest)) c))
+
+pub marks_end : (r : Role) (d : ℕ) (old new : List (Option ℕ)) (all front : List Term) → length front ≡ 0 → MarksReach r d old new all front → Marked d old new (numbers_of_all r (map plain all))
+marks_end r d old new all [] l m = subst (λ x. Marked d old new x) (sym (m.parts ∙ append-nil m.done)) m.marked
+marks_end r d old new all (t ∷ ts) l m = absurd (omega arith)
+
+pub part_below : (r : Role) (ts : List Term) (i : ℕ) (t : Term) (limit : ℕ) → i < length ts → t ≡ get_or ts i t → AreBelow (numbers_of_all r (map plain (drop i ts))) limit → AreBelow (numbers_of r (plain t)) limit
+part_below r ts i t limit lt is b = below_first (numbers_of r (plain t)) (numbers_of_all r (map plain (drop (i + 1) ts))) limit (subst (λ l. AreBelow l limit) (ap (numbers_of_all r) (split_first ts i t lt is)) b)
+
+pub ruleset parts_of_sequences = (numbers-Seq)
+
+pub ruleset first_parts = (split_first, part_below)
+
+pub ruleset mark_steps = (marks_start, marks_more, marks_stop, marks_end)
+
+-- domains one after another
+
+below_of : (n limit : ℕ) → nat_lt n limit ≡ true → n < limit
+below_of n limit h = grind (arith, nat_tests)
+
+both : (a b : Bool) → (a && b) ≡ true → (a ≡ true) × (b ≡ true)
+both true b h = (refl, h)
+both false b h = cc
+
+pub uses_below : (r : Role) (i : Interface) (p : Plain) → is_within (length i.signals) (length i.channels) p ≡ true → AreBelow (numbers_of r p) (limit_of r i)
+uses_below role.Emitter i Nothing h = none_below (length i.signals)
+uses_below role.Emitter i Pause h = none_below (length i.signals)
+uses_below role.Emitter i (Emit n) h = one_below n (length i.signals) (below_of n (length i.signals) h)
+uses_below role.Emitter i (Seq p q) h =
+    let b = both (is_within (length i.signals) (length i.channels) p) (is_within (length i.signals) (length i.channels) q) h in
+    below_both (emits_of p) (emits_of q) (length i.signals) (uses_below role.Emitter i p b.0) (uses_below role.Emitter i q b.1)
+uses_below role.Emitter i (Loop p) h = uses_below role.Emitter i p h
+uses_below role.Emitter i (Send n v) h = none_below (length i.signals)
+uses_below role.Emitter i (Receive n) h = none_below (length i.signals)
+uses_below role.Sender i Nothing h = none_below (length i.channels)
+uses_below role.Sender i Pause h = none_below (length i.channels)
+uses_below role.Sender i (Emit n) h = none_below (length i.channels)
+uses_below role.Sender i (Seq p q) h =
+    let b = both (is_within (length i.signals) (length i.channels) p) (is_within (length i.signals) (length i.channels) q) h in
+    below_both (sends_of p) (sends_of q) (length i.channels) (uses_below role.Sender i p b.0) (uses_below role.Sender i q b.1)
+uses_below role.Sender i (Loop p) h = uses_below role.Sender i p h
+uses_below role.Sender i (Send n v) h = one_below n (length i.channels) (below_of n (length i.channels) (both (nat_lt n (length i.channels)) (is_int v) h).0)
+uses_below role.Sender i (Receive n) h = none_below (length i.channels)
+uses_below role.Receiver i Nothing h = none_below (length i.channels)
+uses_below role.Receiver i Pause h = none_below (length i.channels)
+uses_below role.Receiver i (Emit n) h = none_below (length i.channels)
+uses_below role.Receiver i (Seq p q) h =
+    let b = both (is_within (length i.signals) (length i.channels) p) (is_within (length i.signals) (length i.channels) q) h in
+    below_both (receives_of p) (receives_of q) (length i.channels) (uses_below role.Receiver i p b.0) (uses_below role.Receiver i q b.1)
+uses_below role.Receiver i (Loop p) h = uses_below role.Receiver i p h
+uses_below role.Receiver i (Send n v) h = none_below (length i.channels)
+uses_below role.Receiver i (Receive n) h = one_below n (length i.channels) (below_of n (length i.channels) h)
+
+pub stands_none : (r : Role) (n : ℕ) → stands_in n (numbers_of r Nothing) ≡ true → ⊥
+stands_none role.Emitter n h = cc
+stands_none role.Sender n h = cc
+stands_none role.Receiver n h = cc
+
+-- a domain more
+
+uses_push : (r : Role) (ps : List Plain) (p : Plain) (d n : ℕ) → Uses (numbers_of r) (ps ++ p ∷ []) d n → ((d < length ps) × Uses (numbers_of r) ps d n) ⊎ ((d ≡ length ps) × (stands_in n (numbers_of r p) ≡ true))
+uses_push r [] p zero n h = inr (refl, h)
+uses_push r [] p (suc d) n h = absurd (stands_none r n h)
+uses_push r (q ∷ ps) p zero n h = inl (omega arith, h)
+uses_push r (q ∷ ps) p (suc d) n h = one_more (uses_push r ps p d n h)
+  where
+    one_more : ((d < length ps) × Uses (numbers_of r) ps d n) ⊎ ((d ≡ length ps) × (stands_in n (numbers_of r p) ≡ true)) → ((suc d < suc (length ps)) × Uses (numbers_of r) ps d n) ⊎ ((suc d ≡ suc (length ps)) × (stands_in n (numbers_of r p) ≡ true))
+    one_more (inl x) = let l = x.0 in inl (omega arith, x.1)
+    one_more (inr x) = inr (ap suc x.0, x.1)
+
+uses_left : (r : Role) (ps qs : List Plain) (d n : ℕ) → Uses (numbers_of r) ps d n → Uses (numbers_of r) (ps ++ qs) d n
+uses_left r [] qs d n h = absurd (stands_none r n h)
+uses_left r (p ∷ ps) qs zero n h = h
+uses_left r (p ∷ ps) qs (suc d) n h = uses_left r ps qs d n h
+
+pub uses_here : (r : Role) (ps qs : List Plain) (p : Plain) (n : ℕ) → stands_in n (numbers_of r p) ≡ true → Uses (numbers_of r) (ps ++ p ∷ qs) (length ps) n
+uses_here r [] qs p n h = h
+uses_here r (q ∷ ps) qs p n h = uses_here r ps qs p n h
+
+or_else : Option ℕ → Option ℕ → Option ℕ
+or_else None o = o
+or_else (Some x) o = Some x
+
+first_at_head : (b : Bool) (k m : ℕ) (rest first last : Option ℕ) → rest ≡ or_else first last → cond b (Some k) rest ≡ or_else (cond b (Some k) first) last
+unfolding or_else
+first_at_head true k m rest first last h = refl
+first_at_head false k m rest first last h = h
+
+first_push : (r : Role) (n k : ℕ) (ps : List Plain) (p : Plain) → first_with (numbers_of r) n k (ps ++ p ∷ []) ≡ or_else (first_with (numbers_of r) n k ps) (cond (stands_in n (numbers_of r p)) (Some (k + length ps)) None)
+unfolding or_else
+first_push r n k [] p = let e : k ≡ k + 0 = omega arith in ap (λ m. cond (stands_in n (numbers_of r p)) (Some m) None) e
+first_push r n k (q ∷ ps) p =
+    let e : suc k + length ps ≡ k + suc (length ps) = omega arith in
+    first_at_head (stands_in n (numbers_of r q)) k n (first_with (numbers_of r) n (suc k) (ps ++ p ∷ [])) (first_with (numbers_of r) n (suc k) ps) (cond (stands_in n (numbers_of r p)) (Some (k + suc (length ps))) None)
+    (first_push r n (suc k) ps p ∙ ap (λ m. or_else (first_with (numbers_of r) n (suc k) ps) (cond (stands_in n (numbers_of r p)) (Some m) None)) e)
+
+now_or_before : (b : Bool) (d : ℕ) (o : Option ℕ) → ((e : ℕ) → b ≡ true → o ≡ Some e → e ≡ d) → cond b (Some d) o ≡ or_else o (cond b (Some d) None)
+unfolding or_else
+now_or_before true d None f = refl
+now_or_before true d (Some e) f = ap Some (sym (f e refl refl))
+now_or_before false d None f = refl
+now_or_before false d (Some e) f = refl
+
+pub owners_more : (r : Role) (ps : List Plain) (p : Plain) (old new : List (Option ℕ)) → AreOwners r ps old → Marked (length ps) old new (numbers_of r p) → AreOwners r (ps ++ p ∷ []) new
+owners_more r ps p old new o m = record { is = is; kept = record { alone = λ n d h. alone n d (uses_push r ps p d n h) } }
+  where
+    is : (n : ℕ) → get_or new n None ≡ first_with (numbers_of r) n 0 (ps ++ p ∷ [])
+    is n =
+        m.is n ∙ now_or_before (stands_in n (numbers_of r p)) (length ps) (get_or old n None) (m.free n)
+        ∙ ap (λ x. or_else x (cond (stands_in n (numbers_of r p)) (Some (length ps)) None)) (o.is n)
+        ∙ (let z : length ps ≡ 0 + length ps = omega arith in ap (λ k. or_else (first_with (numbers_of r) n 0 ps) (cond (stands_in n (numbers_of r p)) (Some k) None)) z)
+        ∙ sym (first_push r n 0 ps p)
+
+    stays : (n d : ℕ) → d < length ps → get_or old n None ≡ Some d → (b : Bool) → stands_in n (numbers_of r p) ≡ b → get_or new n None ≡ Some d
+    stays n d l e true s = let same = m.free n d s e in absurd (omega arith)
+    stays n d l e false s = m.is n ∙ ap (λ b. cond b (Some (length ps)) (get_or old n None)) s ∙ e
+
+    alone : (n d : ℕ) → ((d < length ps) × Uses (numbers_of r) ps d n) ⊎ ((d ≡ length ps) × (stands_in n (numbers_of r p) ≡ true)) → first_with (numbers_of r) n 0 (ps ++ p ∷ []) ≡ Some d
+    alone n d (inl x) = sym (is n) ∙ stays n d x.0 (o.is n ∙ o.kept.alone n d x.1) (stands_in n (numbers_of r p)) refl
+    alone n d (inr x) = sym (is n) ∙ m.is n ∙ ap (λ b. cond b (Some (length ps)) (get_or old n None)) x.1 ∙ ap Some (sym x.0)
+
+abbrev pub Found : Role → ℕ → ℕ → ℕ → List Plain → Type 0
+Found r n k e ps = (j : ℕ) × (e ≡ k + j) × (j < length ps) × Uses (numbers_of r) ps j n
+
+found_here : (r : Role) (n k e : ℕ) (ps : List Plain) (p : Plain) (b : Bool) → stands_in n (numbers_of r p) ≡ b → cond b (Some k) (first_with (numbers_of r) n (suc k) ps) ≡ Some e → (first_with (numbers_of r) n (suc k) ps ≡ Some e → Found r n (suc k) e ps) → Found r n k e (p ∷ ps)
+found_here r n k e ps p true s h f = let a : k ≡ e = some_same k e h in (0, omega arith, omega arith, s)
+found_here r n k e ps p false s h f = let x = f h in let a = x.1 in let b = x.2 in (suc x.0, omega arith, omega arith, x.3)
+
+pub first_uses : (r : Role) (n k e : ℕ) (ps : List Plain) → first_with (numbers_of r) n k ps ≡ Some e → Found r n k e ps
+first_uses r n k e [] h = cc
+first_uses r n k e (p ∷ ps) h = found_here r n k e ps p (stands_in n (numbers_of r p)) refl h (λ g. first_uses r n (suc k) e ps g)
+
+pub owners_shared : (r : Role) (ps qs : List Plain) (p : Plain) (old : List (Option ℕ)) → AreOwners r ps old → IsContested (length ps) old (numbers_of r p) → IsShared r (ps ++ p ∷ qs)
+owners_shared r ps qs p old o c =
+    let f = first_uses r c.number 0 c.owner ps (sym (o.is c.number) ∙ c.owned) in
+    record {
+      number = c.number;
+      first = f.0;
+      second = length ps;
+      one = uses_left r ps (p ∷ qs) f.0 c.number f.3;
+      other = uses_here r ps qs p c.number c.stands;
+      differ = λ e. (let l = f.2 in omega arith);
+    }
+
+pub owners_start : (r : Role) (i : Interface) (all : List Term) (owners : List (Option ℕ)) → AreBuilt i all → ((n : ℕ) → get_or owners n None ≡ None) → length owners ≡ limit_of r i → OwnersReach r i all all owners 0
+owners_start r i all owners b e s = record {
+  done = [];
+  parts = refl;
+  number = refl;
+  found = record { is = e; kept = record { alone = λ n d h. absurd (stands_none r n h) } };
+  size = s;
+  built = b;
+}
+
+pub owners_within : (r : Role) (i : Interface) (all front rest : List Term) (t : Term) (owners : List (Option ℕ)) (d : ℕ) → front ≡ t ∷ rest → OwnersReach r i all front owners d → AreBelow (numbers_of r (plain t)) (length owners)
+owners_within r i all front rest t owners d s o =
+    let b = subst (λ x. AreBuilt i x) s o.built in
+    subst (λ n. AreBelow (numbers_of r (plain t)) n) (sym o.size) (uses_below r i (plain t) b.0.uses)
+
+pub owners_step : (r : Role) (i : Interface) (all front rest : List Term) (t : Term) (old new : List (Option ℕ)) (d : ℕ) → front ≡ t ∷ rest → OwnersReach r i all front old d → Marked d old new (numbers_of r (plain t)) → OwnersReach r i all rest new (d + 1)
+owners_step r i all front rest t old new d s o m =
+    let b = subst (λ x. AreBuilt i x) s o.built in
+    record {
+      done = o.done ++ plain t ∷ [];
+      parts = o.parts ∙ ap (λ x. o.done ++ map plain x) s ∙ sym (append_assoc o.done (plain t ∷ []) (map plain rest));
+      number = let a = o.number in let c = length-append o.done (plain t ∷ []) in omega arith;
+      found = owners_more r o.done (plain t) old new o.found (subst (λ k. Marked k old new (numbers_of r (plain t))) (sym o.number) m);
+      size = m.size ∙ o.size;
+      built = b.1;
+    }
+
+pub owners_stop : (r : Role) (i : Interface) (all front rest : List Term) (t : Term) (old : List (Option ℕ)) (d : ℕ) → front ≡ t ∷ rest → OwnersReach r i all front old d → IsContested d old (numbers_of r (plain t)) → IsShared r (map plain all)
+owners_stop r i all front rest t old d s o c =
+    subst (λ x. IsShared r x) (sym (o.parts ∙ ap (λ x. o.done ++ map plain x) s))
+    (owners_shared r o.done (map plain rest) (plain t) old o.found (subst (λ k. IsContested k old (numbers_of r (plain t))) (sym o.number) c))
+
+pub owners_end : (r : Role) (i : Interface) (all front : List Term) (owners : List (Option ℕ)) (d : ℕ) → length front ≡ 0 → OwnersReach r i all front owners d → AreOwners r (map plain all) owners
+owners_end r i all [] owners d l o = subst (λ x. AreOwners r x owners) (sym (o.parts ∙ append-nil o.done)) o.found
+owners_end r i all (t ∷ ts) owners d l o = absurd (omega arith)
+
+pub owners_found : (r : Role) (i : Interface) (all front : List Term) (owners : List (Option ℕ)) (d : ℕ) → length front ≡ 0 → OwnersReach r i all front owners d → OwnersFound r i (map plain all) owners
+owners_found r i all front owners d l o = record { are = owners_end r i all front owners d l o; size = o.size }
+
+pub drop_first : (ts : List Term) (i : ℕ) (t : Term) → i < length ts → t ≡ get_or ts i t → drop i ts ≡ t ∷ drop (i + 1) ts
+drop_first ts i t lt is = rw (add-one, drop-cons ts i t lt) (ap (λ x. x ∷ drop (suc i) ts) (sym is))
+
+none_in : (xs : List (Option ℕ)) (n : ℕ) → get_or xs n None ≡ None → get_or (xs ++ None ∷ []) n None ≡ None
+none_in [] zero h = refl
+none_in [] (suc n) h = refl
+none_in (x ∷ xs) zero h = h
+none_in (x ∷ xs) (suc n) h = none_in xs n h
+
+pub unowned_start : (xs : List (Option ℕ)) → xs ≡ [] → AreUnowned xs 0
+unowned_start xs h = record { none = λ n. ap (λ l. get_or l n None) h; size = ap length h }
+
+pub unowned_push : (xs ys : List (Option ℕ)) (k : ℕ) → AreUnowned xs k → ys ≡ xs ++ None ∷ [] → AreUnowned ys (k + 1)
+unowned_push xs ys k u e = record {
+  none = λ n. ap (λ l. get_or l n None) e ∙ none_in xs n (u.none n);
+  size = let s = u.size in let a = ap length e in let b = length-append xs (None ∷ []) in omega arith;
+}
+
+pub owners_begin : (r : Role) (i : Interface) (all : List Term) (owners : List (Option ℕ)) (k : ℕ) → AreBuilt i all → AreUnowned owners k → k ≡ limit_of r i → OwnersReach r i all all owners 0
+owners_begin r i all owners k b u s = owners_start r i all owners b u.none (u.size ∙ s)
+
+pub ruleset unowned_steps = (unowned_start, unowned_push)
+
+pub ruleset first_domains = (drop_first)
+
+pub ruleset owner_steps = (owners_begin, owners_within, owners_step, owners_stop, owners_found)

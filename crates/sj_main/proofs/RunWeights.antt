@@ -1,0 +1,153 @@
+-- What a run may weigh at most, and how its weight is summed.
+use Rattle.std.proofs.Common.{◌≡◌, ℕ, zero, suc, ◌+◌, ◌*◌, ◌<◌, ◌≤◌, Bool, true, false, ◌&&◌, nat_eq, nat_le, cond, List, [], ◌∷◌, length, get_or, take, arith, refl, sym, ap, ◌∙◌, subst}
+use Rattle.std.specs.List.{range_with_len, sum_by, count_by, All}
+use Rattle.std.proofs.Math.Nat.{mul-le-mul}
+use Rattle.std.proofs.lemmas.Bool.Decides.{nat_tests}
+use Rattle.std.specs.Prelude.{slice_index_or}
+use Rattle.std.proofs.lemmas.List.Sums.{count_by-le-length, sum_by_more, sum_by_more_le, sum_by-cons, sum_by-le, sum_by-le-sum_by}
+use Rattle.std.proofs.lemmas.List.{take_all}
+use Rattle.std.proofs.lemmas.List.FromFn.{length-range_with_len, get_or-range_with_len}
+use Rattle.kernel_terms.specs.declared.tables.SignalInfo.{SignalInfo}
+use Rattle.kernel_terms.specs.declared.tables.Tables.{Tables}
+use Rattle.kernel_terms.specs.declared.system.System.{System}
+use Rattle.kernel_terms.specs.Systems.{tables_of, domains_of}
+use Rattle.kernel_terms.specs.Limits.{most_domains, most_channels, most_signals, most_variables}
+use Rattle.kernel_terms.specs.TableEntries.{is_local, is_interface_of, interface_of, numbers_where, variables_of}
+use Rattle.kernel_terms.specs.WellFormed.{signals_of, all_below, is_within_limits, has_names, is_well_formed}
+use Rattle.sj_main.specs.definitions.Commands.{most_turns}
+use Rattle.sj_main.specs.definitions.RunWeight.{domain_weight, channel_weight}
+
+-- numbers, counted
+
+one_more : {X : Type 0} (p : X → Bool) (n : ℕ) (x : X) (xs : List X) (b : Bool) → p x ≡ b → length (numbers_where p (suc n) xs) ≡ count_by p xs → length (numbers_where p n (x ∷ xs)) ≡ count_by p (x ∷ xs)
+one_more p n x xs b e h = ap (λ c. length (cond c (n ∷ numbers_where p (suc n) xs) (numbers_where p (suc n) xs))) e ∙ by b ∙ sym (ap (λ c. cond c 1 0 + count_by p xs) e) ∙ sym (sum_by-cons (λ y. cond (p y) 1 0) x xs)
+  where
+    by : (c : Bool) → length (cond c (n ∷ numbers_where p (suc n) xs) (numbers_where p (suc n) xs)) ≡ cond c 1 0 + count_by p xs
+    by true = omega arith
+    by false = omega arith
+
+pub numbers_count : {X : Type 0} (p : X → Bool) (n : ℕ) (xs : List X) → length (numbers_where p n xs) ≡ count_by p xs
+numbers_count p n [] = refl
+numbers_count p n (x ∷ xs) = one_more p n x xs (p x) refl (numbers_count p (suc n) xs)
+
+pub numbers_within : {X : Type 0} (p : X → Bool) (n : ℕ) (xs : List X) → length (numbers_where p n xs) ≤ length xs
+numbers_within p n xs = let a = numbers_count p n xs in let b = count_by-le-length p xs in omega arith
+
+pub ruleset counting_numbers = (numbers_count, numbers_within)
+
+-- the limits of a system
+
+both_left : (a b : Bool) → a && b ≡ true → a ≡ true
+both_left true b h = refl
+both_left false b h = h
+
+both_right : (a b : Bool) → a && b ≡ true → b ≡ true
+both_right true b h = h
+both_right false b h = cc
+
+within : (system : System) → is_within_limits (tables_of system) (length (domains_of system)) ≡ true
+within system =
+    let t = tables_of system in
+    let well : is_well_formed t (domains_of system) ≡ true = system.well_formed in
+    both_left _ _ (both_right (has_names t) _ well)
+
+le_of : (a b : ℕ) → nat_le a b ≡ true → a ≤ b
+le_of a b h = grind (arith, nat_tests)
+
+pub few_domains : (system : System) → length (domains_of system) ≤ most_domains
+few_domains system = le_of (length (domains_of system)) most_domains (both_left _ _ (within system))
+
+few_channels : (system : System) → length (tables_of system).channels ≤ most_channels
+few_channels system = le_of (length (tables_of system).channels) most_channels (both_left _ _ (both_right (nat_le (length (domains_of system)) most_domains) _ (within system)))
+
+all_step : (p : ℕ → Bool) (n d : ℕ) (b : Bool) → nat_eq d n ≡ b → p n ≡ true → d < suc n → (d < n → p d ≡ true) → p d ≡ true
+all_step p n d true e h l k = ap p (let s : d ≡ n = grind (arith, nat_tests) in s) ∙ h
+all_step p n d false e h l k = k (let s : d < n = grind (arith, nat_tests) in s)
+
+all_at : (p : ℕ → Bool) (n d : ℕ) → all_below p n ≡ true → d < n → p d ≡ true
+all_at p zero d h l = absurd (omega arith)
+all_at p (suc n) d h l = all_step p n d (nat_eq d n) refl (both_left (p n) (all_below p n) h) l (λ m. all_at p n d (both_right (p n) (all_below p n) h) m)
+
+abbrev one_if : Bool → ℕ
+one_if b = cond b 1 0
+
+less_if : (a b : Bool) → one_if (a && b) ≤ one_if a
+less_if true true = omega arith
+less_if true false = omega arith
+less_if false b = omega arith
+
+abbrev is_of : ℕ → SignalInfo → Bool
+is_of d s = nat_eq s.domain d
+
+fewer : (d : ℕ) (xs : List SignalInfo) → length (numbers_where (is_interface_of d) 0 xs) ≤ length (numbers_where (is_of d) 0 xs)
+fewer d xs =
+    let a = numbers_count (is_interface_of d) 0 xs in
+    let b = numbers_count (is_of d) 0 xs in
+    let c = sum_by-le-sum_by (λ s. one_if (is_interface_of d s)) (λ s. one_if (is_of d s)) xs (λ s. less_if (nat_eq s.domain d) (cond (is_local s.sort) false true)) in
+    omega (arith, a, b, c)
+
+few_signals : (system : System) (d : ℕ) → d < length (domains_of system) → length (interface_of (tables_of system) d) ≤ most_signals
+few_signals system d l =
+    let t = tables_of system in
+    let keeps : ℕ → Bool = λ e. nat_le (length (signals_of t e)) most_signals && nat_le (length (variables_of t e)) most_variables in
+    let below : all_below keeps (length (domains_of system)) ≡ true = both_right (nat_le (length t.channels) most_channels) _ (both_right (nat_le (length (domains_of system)) most_domains) _ (within system)) in
+    let here : nat_le (length (signals_of t d)) most_signals ≡ true = both_left _ (nat_le (length (variables_of t d)) most_variables) (all_at keeps (length (domains_of system)) d below l) in
+    let k = le_of (length (signals_of t d)) most_signals here in
+    let m = fewer d t.signals in
+    omega (arith, k, m)
+
+-- bounds
+
+pub record HasFew (budgets : List ℕ) : Type 0 where
+  pub few : (d : ℕ) → get_or budgets d 0 ≤ most_turns
+
+product_small : (a b c d : ℕ) → a ≤ c → b ≤ d → a * b ≤ c * d
+product_small a b c d h k = mul-le-mul h k
+
+pub domains_small : (system : System) (budgets : List ℕ) → length budgets ≡ length (domains_of system) → HasFew budgets → sum_by (domain_weight (tables_of system) budgets) (range_with_len 0 (length budgets)) ≤ 16 * (100000 * 1025)
+domains_small system budgets same few =
+    let n = length budgets in
+    let t = tables_of system in
+    let all : All (λ d. domain_weight t budgets d ≤ 100000 * 1025) (range_with_len 0 n) = λ k d l. at k (get_or (range_with_len 0 n) k d) (get_or-range_with_len 0 n k d (omega (arith, length-range_with_len 0 n))) (omega (arith, length-range_with_len 0 n)) in
+    let a = sum_by-le (domain_weight t budgets) (100000 * 1025) (range_with_len 0 n) all in
+    let b = product_small (length (range_with_len 0 n)) (100000 * 1025) 16 (100000 * 1025) (omega (arith, length-range_with_len 0 n, few_domains system)) (omega arith) in
+    omega (arith, a, b)
+  where
+    at : (k d : ℕ) → d ≡ 0 + k → k < length budgets → domain_weight (tables_of system) budgets d ≤ 100000 * 1025
+    at k d e l = product_small (get_or budgets d 0) (length (interface_of (tables_of system) d) + 1) 100000 1025 (few.few d) (omega (arith, few_signals system d (omega arith)))
+
+pub channels_small : (system : System) (budgets : List ℕ) → HasFew budgets → sum_by (channel_weight budgets) (tables_of system).channels ≤ 64 * 400002
+channels_small system budgets few =
+    let cs = (tables_of system).channels in
+    let all : All (λ c. channel_weight budgets c ≤ 400002) cs = λ k c l. (let x = slice_index_or cs k c in omega (arith, few.few x.sender, few.few x.receiver)) in
+    let a = sum_by-le (channel_weight budgets) 400002 cs all in
+    let b = product_small (length cs) 400002 64 400002 (few_channels system) (omega arith) in
+    omega (arith, a, b)
+
+pub ruleset small_weights = (domains_small, channels_small, few_domains)
+
+-- the sum over the domains, one more at a time
+
+place_of : (n d : ℕ) → d < n → get_or (range_with_len 0 n) d d ≡ d
+place_of n d l = let e = get_or-range_with_len 0 n d d l in omega arith
+
+adds : (t : Tables) (budgets : List ℕ) (d b n : ℕ) → d < length budgets → b ≡ get_or budgets d 0 → n ≡ length (interface_of t d) → b * (n + 1) ≡ domain_weight t budgets (get_or (range_with_len 0 (length budgets)) d d)
+adds t budgets d b n l e h = ap (λ x. x * (n + 1)) e ∙ ap (λ x. get_or budgets d 0 * (x + 1)) h ∙ ap (domain_weight t budgets) (sym (place_of (length budgets) d l))
+
+pub weight_more : (t : Tables) (budgets : List ℕ) (d b n w : ℕ) → d < length budgets → b ≡ get_or budgets d 0 → n ≡ length (interface_of t d) → w ≡ sum_by (domain_weight t budgets) (take d (range_with_len 0 (length budgets)))
+    → w + b * (n + 1) ≡ sum_by (domain_weight t budgets) (take (d + 1) (range_with_len 0 (length budgets)))
+weight_more t budgets d b n w l e h is =
+    let r = range_with_len 0 (length budgets) in
+    let a = sum_by_more (domain_weight t budgets) r d d (omega (arith, length-range_with_len 0 (length budgets))) in
+    ap (λ x. x + b * (n + 1)) is ∙ ap (λ x. sum_by (domain_weight t budgets) (take d r) + x) (adds t budgets d b n l e h) ∙ sym a
+
+pub weight_room : (t : Tables) (budgets : List ℕ) (d b n w : ℕ) → d < length budgets → b ≡ get_or budgets d 0 → n ≡ length (interface_of t d) → w ≡ sum_by (domain_weight t budgets) (take d (range_with_len 0 (length budgets)))
+    → w + b * (n + 1) ≤ sum_by (domain_weight t budgets) (range_with_len 0 (length budgets))
+weight_room t budgets d b n w l e h is =
+    let r = range_with_len 0 (length budgets) in
+    let a = sum_by_more_le (domain_weight t budgets) r d d (omega (arith, length-range_with_len 0 (length budgets))) in
+    let k : w + b * (n + 1) ≡ sum_by (domain_weight t budgets) (take d r) + domain_weight t budgets (get_or r d d) = ap (λ x. x + b * (n + 1)) is ∙ ap (λ x. sum_by (domain_weight t budgets) (take d r) + x) (adds t budgets d b n l e h) in
+    subst (λ x. x ≤ sum_by (domain_weight t budgets) r) (sym k) a
+
+pub weight_end : (t : Tables) (budgets : List ℕ) (d w : ℕ) → length budgets ≤ d → w ≡ sum_by (domain_weight t budgets) (take d (range_with_len 0 (length budgets))) → w ≡ sum_by (domain_weight t budgets) (range_with_len 0 (length budgets))
+weight_end t budgets d w l is = is ∙ ap (sum_by (domain_weight t budgets)) (take_all d (range_with_len 0 (length budgets)) (omega (arith, length-range_with_len 0 (length budgets))))

@@ -1,6 +1,0 @@
-use Rattle.std.proofs.Common.{take}
-use Rattle.sj_main.specs.Builts.{Merges}
-use Rattle.sj_main.proofs.built.merge.Given as goal
-
-abbrev pub invariant-loop-pair : goal.invariant-loop-pair
-invariant-loop-pair l = Merges l.initial.equations.items l.equations.items l.wires.items (take l.pair-index l.pairs) l.count

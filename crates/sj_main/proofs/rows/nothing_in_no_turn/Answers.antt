@@ -1,5 +1,0 @@
-use Rattle.sj_main.proofs.RowLemmas.{nothing_in_no_turn}
-use Rattle.sj_main.proofs.rows.nothing_in_no_turn.Goals as goal
-
-pub returns : goal.returns
-returns c = nothing_in_no_turn
