@@ -1,5 +1,5 @@
 -- The entries of tables by number, and what belongs to one domain.
-use Rattle.std.specs.Prelude.{ℕ, suc, ◌==◌, Bool, true, false, ◌&&◌, cond, List, [], ◌∷◌, None, get_or, unwrap_or}
+use Rattle.std.specs.Prelude.{ℕ, suc, ◌==◌, Bool, true, false, ◌&&◌, cond, List, [], ◌∷◌, None, get_or, is_some, unwrap_or}
 use Rattle.java_values.specs.declared.kind.Kind.{Kind}
 use Rattle.java_values.specs.declared.kind.Kind.TheVariants as kind
 use Rattle.kernel_terms.specs.declared.tables.SignalInfo.{SignalInfo}
@@ -54,6 +54,13 @@ is_interface_of d info = (info.domain == d) && cond (is_local info.sort) false t
 -- the interface signals of a domain, in order of declaration
 abbrev pub interface_of : Tables → ℕ → List ℕ
 interface_of t d = numbers_where (is_interface_of d) 0 t.signals
+
+-- those of them that have a value
+abbrev pub is_valued_of : ℕ → SignalInfo → Bool
+is_valued_of d info = is_interface_of d info && is_some info.kind
+
+abbrev pub valued_of : Tables → ℕ → List ℕ
+valued_of t d = numbers_where (is_valued_of d) 0 t.signals
 
 -- the variables of a domain
 abbrev pub variables_of : Tables → ℕ → List ℕ
