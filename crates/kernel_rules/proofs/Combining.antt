@@ -15,7 +15,7 @@ use Rattle.java_values.proofs.Wrapping.{low_bits_wrap, small_wraps, bits_wrap}
 use Rattle.java_values.proofs.InRange.{wrapped_range}
 use Rattle.kernel_terms.specs.declared.tables.Combine.{Combine}
 use Rattle.kernel_terms.specs.declared.tables.Combine.TheVariants.{Add, Max, Min, And, Or, Xor}
-use Rattle.kernel_rules.specs.Signals.{combined}
+use Rattle.kernel_rules.specs.definitions.Signals.{combined}
 use Rattle.kernel_rules.proofs.Residues.{low, low_lt, low_add, low_wrapped}
 use Rattle.std.proofs.Math.IntN.{+ℤ_comm, +ℤ_assoc}
 use mir.Val.{bits}

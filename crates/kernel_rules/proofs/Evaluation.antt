@@ -8,10 +8,10 @@ use Rattle.kernel_terms.specs.declared.tables.Tables.{Tables}
 use Rattle.kernel_terms.specs.TableEntries.{signal_at}
 use Rattle.kernel_terms.specs.Expressions.{Expression}
 use Rattle.kernel_terms.specs.Statements.{Stmt, Nothing, Pause, Emit, Assign, If, Present, Seq, Loop, Par, Trap, Exit, Abort, Suspend, Local, Send, Receive, SendWaits, Sent, ReceiveWaits, Received}
-use Rattle.kernel_rules.specs.Signals.{Env, Status, put_at, is_emitted, values_of, without, folded}
-use Rattle.kernel_rules.specs.Expressions.{Readings, value_of, holds}
+use Rattle.kernel_rules.specs.definitions.Signals.{Env, Status, put_at, is_emitted, values_of, without, folded}
+use Rattle.kernel_rules.specs.definitions.Expressions.{Readings, value_of, holds}
 use Rattle.kernel_rules.proofs.Booleans.{left_of, right_of}
-use Rattle.kernel_rules.specs.TickRule.{Tick, Ticks, has_ended, exit_code, code_of_trap, code_of_weak_abort, left_at, quiet, ends_with, as_whole, tick_of_both, Continues, Chosen, IsEmitted, Aborts}
+use Rattle.kernel_rules.specs.definitions.TickRule.{Tick, Ticks, has_ended, exit_code, code_of_trap, code_of_weak_abort, left_at, quiet, ends_with, as_whole, tick_of_both, Continues, Chosen, IsEmitted, Aborts}
 
 -- a tick, whether the given statuses were right, and those that are left
 pub record Trial : Type 0 where

@@ -5,7 +5,7 @@ use Rattle.java_values.specs.Kinds.{IsInRange}
 use Rattle.kernel_terms.specs.declared.tables.SignalInfo.{SignalInfo}
 use Rattle.kernel_terms.specs.declared.tables.Combine.{Combine}
 use Rattle.kernel_terms.specs.TableEntries.{value_kind}
-use Rattle.kernel_rules.specs.Signals.{combined, combined_all, folded}
+use Rattle.kernel_rules.specs.definitions.Signals.{combined, combined_all, folded}
 use Rattle.kernel_rules.proofs.Combining.{combined_range, combined_comm, combined_assoc}
 
 first_range : (k : Kind) (v : ℤ) (vs : List ℤ) → All (λ n. IsInRange k n) (v ∷ vs) → IsInRange k v

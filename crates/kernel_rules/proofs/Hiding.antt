@@ -2,8 +2,8 @@
 use Rattle.std.proofs.Common.{◌≡◌, ℕ, ◌==◌, ℤ, Bool, true, false, ◌||◌, cond, List, [], ◌∷◌, refl, ap, ◌∙◌}
 use Rattle.kernel_terms.specs.declared.tables.Tables.{Tables}
 use Rattle.kernel_terms.specs.Statements.{Stmt, Local}
-use Rattle.kernel_rules.specs.Signals.{Emission, Env, is_emitted, without}
-use Rattle.kernel_rules.specs.TickRule.{Tick, Ticks}
+use Rattle.kernel_rules.specs.definitions.Signals.{Emission, Env, is_emitted, without}
+use Rattle.kernel_rules.specs.definitions.TickRule.{Tick, Ticks}
 
 one_less : (e : Emission) (m : List Emission) (s : ℕ) (t : Bool) → (e.signal == s) ≡ t → is_emitted m s ≡ false → is_emitted (cond t m (e ∷ m)) s ≡ false
 one_less e m s true q h = h

@@ -1,5 +1,13 @@
 mod Booleans
 mod Evaluation
+pub mod Alone
+pub mod Showing
+pub mod LogsAlone
+pub mod DomainRows
+pub mod RowsAlone
+pub mod Reading
+pub mod Codes
+pub mod Leaving
 mod Residues
 pub mod Combining
 pub mod Folding

@@ -5,9 +5,9 @@ use Rattle.kernel_terms.specs.declared.tables.Tables.{Tables}
 use Rattle.kernel_terms.specs.TableEntries.{signal_at}
 use Rattle.kernel_terms.specs.Expressions.{Expression, Test}
 use Rattle.kernel_terms.specs.Statements.{Stmt, Nothing, Pause, Emit, Assign, If, Present, Seq, Loop, Par, Trap, Exit, Abort, Suspend, Local, Send, Receive, SendWaits, Sent, ReceiveWaits, Received}
-use Rattle.kernel_rules.specs.TickRule.{writes}
-use Rattle.kernel_rules.specs.Registers.{registers, value_kinds, live, residual, last_value}
-use Rattle.kernel_rules.specs.Mentions.{of_any_part, names_variable, names_signal, names_channel, mentions_variable, mentions_signal, mentions_channel, reads_channel}
+use Rattle.kernel_rules.specs.definitions.TickRule.{writes}
+use Rattle.kernel_rules.specs.definitions.Registers.{registers, value_kinds, live, residual, last_value}
+use Rattle.kernel_rules.specs.definitions.Mentions.{of_any_part, names_variable, names_signal, names_channel, mentions_variable, mentions_signal, mentions_channel, reads_channel}
 use Rattle.kernel_rules.proofs.Booleans.{or_left, or_right, either_true, or_to, other_one}
 use Rattle.kernel_rules.proofs.Resuming.{from_cond}
 

@@ -6,10 +6,10 @@ use Rattle.kernel_terms.specs.declared.tables.Tables.{Tables}
 use Rattle.kernel_terms.specs.TableEntries.{signal_at}
 use Rattle.kernel_terms.specs.Statements.{Stmt, Nothing, Pause, Emit, Assign, If, Present, Seq, Loop, Par, Trap, Exit, Abort, Suspend, Local, Send, Receive, SendWaits, Sent, ReceiveWaits, Received}
 use Rattle.kernel_terms.specs.MayEnd.{Ways, ends_alone, within_trap, in_turn, starting, resuming, resumes, ends0, ends1}
-use Rattle.kernel_rules.specs.Signals.{Env, put_at}
-use Rattle.kernel_rules.specs.Expressions.{holds}
-use Rattle.kernel_rules.specs.TickRule.{Tick, Ticks, has_ended, code_of_trap, as_whole, quiet, ends_with}
-use Rattle.kernel_rules.specs.Registers.{registers, value_kinds, live, residual, LivesApart, OverOrLive}
+use Rattle.kernel_rules.specs.definitions.Signals.{Env, put_at}
+use Rattle.kernel_rules.specs.definitions.Expressions.{holds}
+use Rattle.kernel_rules.specs.definitions.TickRule.{Tick, Ticks, has_ended, code_of_trap, as_whole, quiet, ends_with}
+use Rattle.kernel_rules.specs.definitions.Registers.{registers, value_kinds, live, residual, LivesApart, OverOrLive}
 use Rattle.kernel_rules.proofs.Booleans.{right_of, or_left, or_right, both_true, other_one, or_to}
 use Rattle.kernel_rules.proofs.Starting.{Allows, from_chosen, pauses, ends, at_code, first_way, second_way, continues_allow, abort_allows, beside_allows, trapped, starting_allows}
 
@@ -49,8 +49,8 @@ turn_of_first p q code a =
     let w = starting q in
     record {
       ends = λ e. or_right (resuming q).ends (v.ends && w.ends) (a.ends e);
-      exits = λ d e. or_to (v.exits d) (v.ends && w.exits d) (v.exits d) ((resuming q).exits d || (v.ends && w.exits d)) (λ h. h)
-          (λ h. or_right ((resuming q).exits d) (v.ends && w.exits d) h) (a.exits d e);
+      exits = λ d l e. or_to (v.exits d) (v.ends && w.exits d) (v.exits d) ((resuming q).exits d || (v.ends && w.exits d)) (λ h. h)
+          (λ h. or_right ((resuming q).exits d) (v.ends && w.exits d) h) (a.exits d l e);
     }
 
 turn_of_second : (p q : Stmt) (code : ℕ) → Allows (resuming q) code → Allows (resuming (Seq p q)) code
@@ -59,7 +59,7 @@ turn_of_second p q code a =
     let w = starting q in
     record {
       ends = λ e. or_left (resuming q).ends (v.ends && w.ends) (a.ends e);
-      exits = λ d e. or_right (v.exits d) ((resuming q).exits d || (v.ends && w.exits d)) (or_left ((resuming q).exits d) (v.ends && w.exits d) (a.exits d e));
+      exits = λ d l e. or_right (v.exits d) ((resuming q).exits d || (v.ends && w.exits d)) (or_left ((resuming q).exits d) (v.ends && w.exits d) (a.exits d l e));
     }
 
 turn_of_loop : (p : Stmt) (code : ℕ) → Allows (in_turn (resuming p) (starting (Loop p))) code → Allows (resuming (Loop p)) code

@@ -1,66 +1,67 @@
 -- Ticks of small statements, by computation.
-use Rattle.std.proofs.Common.{◌≡◌, ℕ, zero, suc, ◌≤◌, ℤ, pos, Bool, true, false, not, ◌&&◌, nat_le, List, [], ◌∷◌, get_or, Option, refl, arith, int_eq}
+use Rattle.std.proofs.Common.{◌≡◌, ℕ, zero, suc, ℤ, pos, Bool, true, false, not, ◌&&◌, List, [], ◌∷◌, get_or, Option, refl, int_eq}
 use Rattle.std.specs.Cmp.{signed_Decides}
-use Rattle.std.proofs.lemmas.Bool.Decides.{nat_tests}
 use Rattle.std.specs.Int.{int_wrap}
 use Rattle.kernel_terms.specs.declared.tables.SignalInfo.{SignalInfo}
 use Rattle.kernel_terms.specs.declared.tables.Tables.{Tables}
 use Rattle.kernel_terms.specs.TableEntries.{no_signal, is_interface_of}
 use Rattle.kernel_terms.specs.Expressions.{IsPresent}
+use Rattle.kernel_terms.specs.Marks.{Mark, Going, Ended, is_over}
 use Rattle.kernel_terms.specs.Statements.{Stmt, Nothing, Suspend, ReceiveWaits}
-use Rattle.kernel_rules.specs.Signals.{Env, Status}
-use Rattle.kernel_rules.specs.TickRule.{Tick, Ticks, has_ended, quiet, ends_with, Chosen, as_whole}
-use Rattle.kernel_rules.specs.LegalTick.{DomainState, Inputs, IsLegalTick, status_in, values_after, shown_statuses}
+use Rattle.kernel_rules.specs.definitions.Signals.{Env, Status}
+use Rattle.kernel_rules.specs.definitions.TickRule.{Tick, Ticks, quiet, ends_with, Chosen, as_whole}
+use Rattle.kernel_rules.specs.definitions.LegalTick.{DomainState, Inputs, IsLegalTick, is_tick_code, mark_after, status_in, values_after, shown_statuses}
 use Rattle.kernel_rules.specs.Rows
-use Rattle.kernel_rules.specs.Rows.{Logs, MakesTicks, at_start, no_inputs, first_signal_at, on, off, with}
+use Rattle.kernel_rules.specs.Rows.{Logs, MakesTicks, at_start, first_signal_at, on, off, with}
+use Rattle.kernel_rules.specs.definitions.LegalTick.{no_inputs}
 use Rattle.kernel_rules.proofs.Booleans.{left_of, right_of}
-use Rattle.kernel_rules.proofs.Evaluation.{Trial, trial, trial_ticks, same_bool, equal_bools, off_of}
+use Rattle.kernel_rules.proofs.Evaluation.{Trial, trial, trial_ticks, same_bool, equal_bools}
 
-abbrev absent : Status
+abbrev pub absent : Status
 absent = record { present = false; value = pos 0 }
 
-abbrev here : Status
+abbrev pub here : Status
 here = record { present = true; value = pos 0 }
 
-abbrev valued : ℕ → Status
+abbrev pub valued : ℕ → Status
 valued n = record { present = true; value = pos n }
 
-abbrev env_of : List Status → Env
+abbrev pub env_of : List Status → Env
 env_of l s = get_or l s absent
 
 -- a tick by the statuses of the interface signals, by number, and of the local ones, in the order in which
 -- they are met
-record Given : Type 0 where
-  interface : List Status
-  local : List Status
+pub record Given : Type 0 where
+  pub interface : List Status
+  pub local : List Status
 
 -- of a statement without local signals
-abbrev plain : List Status → Given
+abbrev pub plain : List Status → Given
 plain l = record { interface = l; local = [] }
 
-abbrev trial_of : Tables → DomainState → Given → Trial
+abbrev pub trial_of : Tables → DomainState → Given → Trial
 trial_of tables old g = trial tables old.last old.statement (env_of g.interface) old.variables g.local
 
-abbrev after : Tables → DomainState → Given → DomainState
+abbrev pub after : Tables → DomainState → Given → DomainState
 after tables old g =
     let o = (trial_of tables old g).tick in
-    record { statement = o.rest; variables = o.variables; values = values_after tables 0 (env_of g.interface) old.values; last = old.last; ticks = suc old.ticks; ended = has_ended o.code }
+    record { statement = o.rest; variables = o.variables; values = values_after tables 0 (env_of g.interface) old.values; last = old.last; ticks = suc old.ticks; mark = mark_after o.code }
 
 -- the status that the tick gives to a signal
-abbrev given_status : Tables → Inputs → DomainState → Given → ℕ → Status
+abbrev pub given_status : Tables → Inputs → DomainState → Given → ℕ → Status
 given_status tables inputs old g s = status_in tables (λ k. inputs k (suc old.ticks)) old.values (trial_of tables old g).tick.emits s
 
-abbrev same_status : Status → Status → Bool
+abbrev pub same_status : Status → Status → Bool
 same_status a b = same_bool a.present b.present && int_eq a.value b.value
 
-abbrev each_number : {X : Type 0} → List X → (ℕ → Bool) → Bool
+abbrev pub each_number : {X : Type 0} → List X → (ℕ → Bool) → Bool
 each_number [] check = true
 each_number (x ∷ xs) check = check 0 && each_number xs (λ s. check (suc s))
 
-abbrev is_legal : Tables → Inputs → DomainState → Given → Bool
+abbrev pub is_legal : Tables → Inputs → DomainState → Given → Bool
 is_legal tables inputs old g =
     let t = trial_of tables old g in
-    not old.ended && (t.right && (nat_le t.tick.code 1 && each_number tables.signals (λ s. same_status (env_of g.interface s) (given_status tables inputs old g s))))
+    not (is_over old.mark) && (t.right && (is_tick_code t.tick.code && each_number tables.signals (λ s. same_status (env_of g.interface s) (given_status tables inputs old g s))))
 
 equal_statuses : (a b : Status) → same_status a b ≡ true → a ≡ b
 equal_statuses a b h =
@@ -75,40 +76,41 @@ each_signal [] check h s e = cc
 each_signal (a ∷ rest) check h zero e = left_of (check 0) (each_number rest (λ s. check (suc s))) h
 each_signal (a ∷ rest) check h (suc s) e = each_signal rest (λ k. check (suc k)) (right_of (check 0) (each_number rest (λ k. check (suc k))) h) s e
 
-small_code : (n : ℕ) → nat_le n 1 ≡ true → n ≤ 1
-small_code n h = grind (arith, nat_tests)
+goes : (m : Mark) → not (is_over m) ≡ true → m ≡ Going
+goes Going h = refl
+goes Ended h = absurd cc
 
 legal :
     (tables : Tables) (inputs : Inputs) (old : DomainState) (g : Given)
     → is_legal tables inputs old g ≡ true → IsLegalTick tables inputs 0 old (shown_statuses tables 0 (env_of g.interface)) (after tables old g)
 legal tables inputs old g h =
     let t = trial_of tables old g in
-    let small = nat_le t.tick.code 1 in
+    let small = is_tick_code t.tick.code in
     let check = λ (s : ℕ). same_status (env_of g.interface s) (given_status tables inputs old g s) in
     let agree = each_number tables.signals check in
-    let fits = right_of (not old.ended) (t.right && (small && agree)) h in
+    let fits = right_of (not (is_over old.mark)) (t.right && (small && agree)) h in
     let ok = right_of t.right (small && agree) fits in
     record {
-      goes_on = off_of old.ended (left_of (not old.ended) (t.right && (small && agree)) h);
+      goes_on = goes old.mark (left_of (not (is_over old.mark)) (t.right && (small && agree)) h);
       env = env_of g.interface;
       tick = t.tick;
       ticks = trial_ticks tables old.last old.statement (env_of g.interface) old.variables g.local (left_of t.right (small && agree) fits);
       coherent = λ s e. equal_statuses (env_of g.interface s) (given_status tables inputs old g s) (each_signal tables.signals check (right_of small agree ok) s e);
-      code = small_code t.tick.code (left_of small agree ok);
+      code = left_of small agree ok;
       shows = refl;
       next = refl;
     }
 
 -- several ticks in turn
-abbrev are_legal : Tables → Inputs → DomainState → List Given → Bool
+abbrev pub are_legal : Tables → Inputs → DomainState → List Given → Bool
 are_legal tables inputs old [] = true
 are_legal tables inputs old (g ∷ gs) = is_legal tables inputs old g && are_legal tables inputs (after tables old g) gs
 
-abbrev after_all : Tables → DomainState → List Given → DomainState
+abbrev pub after_all : Tables → DomainState → List Given → DomainState
 after_all tables old [] = old
 after_all tables old (g ∷ gs) = after_all tables (after tables old g) gs
 
-abbrev rows_of : Tables → List Given → List (List (Option ℤ))
+abbrev pub rows_of : Tables → List Given → List (List (Option ℤ))
 rows_of tables [] = []
 rows_of tables (g ∷ gs) = shown_statuses tables 0 (env_of g.interface) ∷ rows_of tables gs
 
@@ -119,40 +121,40 @@ makes tables inputs old (g ∷ gs) h =
     let later = are_legal tables inputs (after tables old g) gs in
     (after tables old g, legal tables inputs old g (left_of first later h), makes tables inputs (after tables old g) gs (right_of first later h))
 
-logs :
+pub logs :
     (tables : Tables) (inputs : Inputs) (p : Stmt) (gs : List Given) → are_legal tables inputs (at_start p) gs ≡ true
-    → Logs tables inputs p (rows_of tables gs) (after_all tables (at_start p) gs).statement (after_all tables (at_start p) gs).ended
-logs tables inputs p gs h = record { state = after_all tables (at_start p) gs; ticks = makes tables inputs (at_start p) gs h; leaves = refl; over = refl }
+    → Logs tables inputs p (rows_of tables gs) (after_all tables (at_start p) gs).statement (after_all tables (at_start p) gs).mark
+logs tables inputs p gs h = record { state = after_all tables (at_start p) gs; ticks = makes tables inputs (at_start p) gs h; leaves = refl; stands = refl }
 
-pub sibling_logs : Logs Rows.sibling_tables no_inputs Rows.sibling ((on ∷ off ∷ []) ∷ (on ∷ on ∷ []) ∷ []) Nothing true
+pub sibling_logs : Logs Rows.sibling_tables no_inputs Rows.sibling ((on ∷ off ∷ []) ∷ (on ∷ on ∷ []) ∷ []) Nothing Ended
 sibling_logs = logs Rows.sibling_tables no_inputs Rows.sibling (plain (here ∷ absent ∷ []) ∷ plain (here ∷ here ∷ []) ∷ []) refl
 
-pub weak_abort_logs : Logs Rows.abort_tables (first_signal_at 2) (Rows.aborted true) ((off ∷ on ∷ off ∷ []) ∷ (on ∷ on ∷ on ∷ []) ∷ []) Nothing true
+pub weak_abort_logs : Logs Rows.abort_tables (first_signal_at 2) (Rows.aborted true) ((off ∷ on ∷ off ∷ []) ∷ (on ∷ on ∷ on ∷ []) ∷ []) Nothing Ended
 weak_abort_logs = logs Rows.abort_tables (first_signal_at 2) (Rows.aborted true) (plain (absent ∷ here ∷ absent ∷ []) ∷ plain (here ∷ here ∷ here ∷ []) ∷ []) refl
 
-pub endless_abort_logs : Logs Rows.abort_tables (first_signal_at 2) Rows.endless_aborted ((off ∷ on ∷ off ∷ []) ∷ (on ∷ on ∷ on ∷ []) ∷ []) Nothing true
+pub endless_abort_logs : Logs Rows.abort_tables (first_signal_at 2) Rows.endless_aborted ((off ∷ on ∷ off ∷ []) ∷ (on ∷ on ∷ on ∷ []) ∷ []) Nothing Ended
 endless_abort_logs = logs Rows.abort_tables (first_signal_at 2) Rows.endless_aborted (plain (absent ∷ here ∷ absent ∷ []) ∷ plain (here ∷ here ∷ here ∷ []) ∷ []) refl
 
-pub strong_abort_begins : Logs Rows.abort_tables (first_signal_at 2) (Rows.aborted false) ((off ∷ on ∷ off ∷ []) ∷ []) Rows.armed_abort false
+pub strong_abort_begins : Logs Rows.abort_tables (first_signal_at 2) (Rows.aborted false) ((off ∷ on ∷ off ∷ []) ∷ []) Rows.armed_abort Going
 strong_abort_begins = logs Rows.abort_tables (first_signal_at 2) (Rows.aborted false) (plain (absent ∷ here ∷ absent ∷ []) ∷ []) refl
 
-pub strong_abort_logs : Logs Rows.abort_tables (first_signal_at 2) (Rows.aborted false) ((off ∷ on ∷ off ∷ []) ∷ (on ∷ off ∷ on ∷ []) ∷ []) Nothing true
+pub strong_abort_logs : Logs Rows.abort_tables (first_signal_at 2) (Rows.aborted false) ((off ∷ on ∷ off ∷ []) ∷ (on ∷ off ∷ on ∷ []) ∷ []) Nothing Ended
 strong_abort_logs = logs Rows.abort_tables (first_signal_at 2) (Rows.aborted false) (plain (absent ∷ here ∷ absent ∷ []) ∷ plain (here ∷ absent ∷ here ∷ []) ∷ []) refl
 
-pub new_copy_begins : Logs Rows.new_copy_tables no_inputs Rows.new_copy ((off ∷ on ∷ []) ∷ []) Rows.old_copy false
+pub new_copy_begins : Logs Rows.new_copy_tables no_inputs Rows.new_copy ((off ∷ on ∷ []) ∷ []) Rows.old_copy Going
 new_copy_begins = logs Rows.new_copy_tables no_inputs Rows.new_copy (record { interface = absent ∷ here ∷ []; local = absent ∷ [] } ∷ []) refl
 
-pub new_copy_logs : Logs Rows.new_copy_tables no_inputs Rows.new_copy ((off ∷ on ∷ []) ∷ (off ∷ on ∷ []) ∷ []) Rows.old_copy false
+pub new_copy_logs : Logs Rows.new_copy_tables no_inputs Rows.new_copy ((off ∷ on ∷ []) ∷ (off ∷ on ∷ []) ∷ []) Rows.old_copy Going
 new_copy_logs =
     let first : Given = record { interface = absent ∷ here ∷ []; local = absent ∷ [] } in
     let second : Given = record { interface = absent ∷ here ∷ []; local = here ∷ absent ∷ [] } in
     logs Rows.new_copy_tables no_inputs Rows.new_copy (first ∷ second ∷ []) refl
 
-pub new_value_begins : Logs Rows.new_value_tables no_inputs Rows.new_value ((with 0 ∷ []) ∷ []) Rows.old_value false
+pub new_value_begins : Logs Rows.new_value_tables no_inputs Rows.new_value ((with 0 ∷ []) ∷ []) Rows.old_value Going
 unfolding int_wrap
 new_value_begins = logs Rows.new_value_tables no_inputs Rows.new_value (record { interface = valued 0 ∷ []; local = absent ∷ [] } ∷ []) refl
 
-pub new_value_logs : Logs Rows.new_value_tables no_inputs Rows.new_value ((with 0 ∷ []) ∷ (with 0 ∷ []) ∷ []) Rows.old_value false
+pub new_value_logs : Logs Rows.new_value_tables no_inputs Rows.new_value ((with 0 ∷ []) ∷ (with 0 ∷ []) ∷ []) Rows.old_value Going
 unfolding int_wrap
 new_value_logs =
     let first : Given = record { interface = valued 0 ∷ []; local = absent ∷ [] } in
@@ -186,23 +188,23 @@ receive_ends last env x h =
     rw h (b, (ends_with [] x, refl, (b, (last 0, refl, refl), refl)), refl)
 
 -- the ticks of the three copies
-abbrev first_copies : Given
+abbrev pub first_copies : Given
 first_copies = record { interface = absent ∷ valued 1 ∷ []; local = valued 1 ∷ [] }
 
-abbrev second_copies : Given
+abbrev pub second_copies : Given
 second_copies = record { interface = here ∷ valued 7 ∷ []; local = valued 5 ∷ valued 1 ∷ valued 1 ∷ [] }
 
-abbrev third_copies : Given
+abbrev pub third_copies : Given
 third_copies = record { interface = absent ∷ valued 6 ∷ []; local = valued 5 ∷ valued 1 ∷ [] }
 
-pub copies_begin : Logs Rows.copies_tables (first_signal_at 2) Rows.copies ((off ∷ with 1 ∷ []) ∷ []) Rows.old_copies false
+pub copies_begin : Logs Rows.copies_tables (first_signal_at 2) Rows.copies ((off ∷ with 1 ∷ []) ∷ []) Rows.old_copies Going
 unfolding int_wrap
 copies_begin = logs Rows.copies_tables (first_signal_at 2) Rows.copies (first_copies ∷ []) refl
 
-pub copies_abort : Logs Rows.copies_tables (first_signal_at 2) Rows.copies ((off ∷ with 1 ∷ []) ∷ (on ∷ with 7 ∷ []) ∷ []) Rows.old_copies false
+pub copies_abort : Logs Rows.copies_tables (first_signal_at 2) Rows.copies ((off ∷ with 1 ∷ []) ∷ (on ∷ with 7 ∷ []) ∷ []) Rows.old_copies Going
 unfolding int_wrap
 copies_abort = logs Rows.copies_tables (first_signal_at 2) Rows.copies (first_copies ∷ second_copies ∷ []) refl
 
-pub copies_logs : Logs Rows.copies_tables (first_signal_at 2) Rows.copies ((off ∷ with 1 ∷ []) ∷ (on ∷ with 7 ∷ []) ∷ (off ∷ with 6 ∷ []) ∷ []) Rows.old_copies false
+pub copies_logs : Logs Rows.copies_tables (first_signal_at 2) Rows.copies ((off ∷ with 1 ∷ []) ∷ (on ∷ with 7 ∷ []) ∷ (off ∷ with 6 ∷ []) ∷ []) Rows.old_copies Going
 unfolding int_wrap
 copies_logs = logs Rows.copies_tables (first_signal_at 2) Rows.copies (first_copies ∷ second_copies ∷ third_copies ∷ []) refl

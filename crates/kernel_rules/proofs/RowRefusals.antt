@@ -4,9 +4,9 @@ use Rattle.kernel_terms.specs.declared.tables.Tables.{Tables}
 use Rattle.kernel_terms.specs.TableEntries.{signal_at}
 use Rattle.kernel_terms.specs.Expressions.{Test, IsPresent}
 use Rattle.kernel_terms.specs.Statements.{Stmt, Nothing, Pause, Emit, Seq, Abort, Suspend, Local}
-use Rattle.kernel_rules.specs.Signals.{Emission, Env, put_at, is_emitted, values_of, without, folded}
-use Rattle.kernel_rules.specs.Expressions.{holds}
-use Rattle.kernel_rules.specs.TickRule.{Tick, Ticks, has_ended, left_at, quiet, ends_with, Chosen, Continues, as_whole}
+use Rattle.kernel_rules.specs.definitions.Signals.{Emission, Env, put_at, is_emitted, values_of, without, folded}
+use Rattle.kernel_rules.specs.definitions.Expressions.{holds}
+use Rattle.kernel_rules.specs.definitions.TickRule.{Tick, Ticks, has_ended, left_at, quiet, ends_with, Chosen, Continues, as_whole}
 use Rattle.kernel_rules.specs.Rows
 
 pub strong_abort_alone :

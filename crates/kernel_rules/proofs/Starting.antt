@@ -1,38 +1,39 @@
 -- What a starting tick may do: a statement's tick ends or exits only where its shape allows it.
-use Rattle.std.proofs.Common.{◌≡◌, ◌≢◌, ℕ, zero, suc, max, ℤ, Bool, true, false, ◌&&◌, ◌||◌, ◌==◌, [], ◌++◌, ◌⊎◌, ⊎_elim, refl, sym, ap, subst, arith}
+use Rattle.std.proofs.Common.{◌≡◌, ◌≢◌, ℕ, zero, suc, max, ◌<◌, ◌-◌, ℤ, Bool, true, false, ◌&&◌, ◌||◌, ◌==◌, cond, [], ◌++◌, ◌⊎◌, ⊎_elim, refl, sym, subst, arith}
 use Rattle.std.proofs.lemmas.Bool.Decides.{nat_tests}
 use Rattle.java_values.specs.Arithmetic.{is_true}
 use Rattle.kernel_terms.specs.declared.tables.Tables.{Tables}
+use Rattle.kernel_terms.specs.Limits.{most_traps}
 use Rattle.kernel_terms.specs.Statements.{Stmt, Nothing, Pause, Emit, Assign, If, Present, Seq, Loop, Par, Trap, Exit, Abort, Suspend, Local, Send, Receive, SendWaits, Sent, ReceiveWaits, Received}
 use Rattle.kernel_terms.specs.MayEnd.{Ways, never, ends_alone, exits_to, either, in_turn, beside, within_trap, starting}
-use Rattle.kernel_rules.specs.Signals.{Env, put_at}
-use Rattle.kernel_rules.specs.Expressions.{holds}
+use Rattle.kernel_rules.specs.definitions.Signals.{Env, put_at}
+use Rattle.kernel_rules.specs.definitions.Expressions.{holds}
 use Rattle.kernel_rules.proofs.Booleans.{left_of, or_left, or_right, both_true}
-use Rattle.kernel_rules.specs.TickRule.{Tick, Ticks, Continues, Chosen, Aborts, has_ended, exit_code, code_of_trap, code_of_weak_abort, as_whole, quiet, ends_with}
+use Rattle.kernel_rules.specs.definitions.TickRule.{Tick, Ticks, Continues, Chosen, Aborts, has_ended, has_paused, has_exited, exit_code, code_of_trap, code_of_weak_abort, as_whole, quiet, ends_with}
 
 -- a tick with this code is one of these ways
 pub record Allows (w : Ways) (code : ℕ) : Type 0 where
   pub ends : code ≡ 0 → w.ends ≡ true
-  pub exits : (d : ℕ) → code ≡ exit_code d → w.exits d ≡ true
+  pub exits : (d : ℕ) → d < most_traps → code ≡ exit_code d → w.exits d ≡ true
 
 pub from_chosen : {C : Type 0} (t : Bool) (A B : Type 0) → (t ≡ true → A → C) → (t ≡ false → B → C) → Chosen t A B → C
 from_chosen true A B f g h = f refl h
 from_chosen false A B f g h = g refl h
 
 pub pauses : (w : Ways) → Allows w 1
-pauses w = record { ends = λ e. cc; exits = λ d e. cc }
+pauses w = record { ends = λ e. cc; exits = λ d l e. cc }
 
 pub ends : (w : Ways) → w.ends ≡ true → Allows w 0
-ends w h = record { ends = λ e. h; exits = λ d e. cc }
+ends w h = record { ends = λ e. h; exits = λ d l e. cc }
 
 pub at_code : (w : Ways) (o b : Tick) → o ≡ b → Allows w b.code → Allows w o.code
 at_code w o b e a = subst (λ (z : Tick). Allows w z.code) (sym e) a
 
 pub first_way : (v w : Ways) (code : ℕ) → Allows v code → Allows (either v w) code
-first_way v w code a = record { ends = λ e. or_left v.ends w.ends (a.ends e); exits = λ d e. or_left (v.exits d) (w.exits d) (a.exits d e) }
+first_way v w code a = record { ends = λ e. or_left v.ends w.ends (a.ends e); exits = λ d l e. or_left (v.exits d) (w.exits d) (a.exits d l e) }
 
 pub second_way : (v w : Ways) (code : ℕ) → Allows w code → Allows (either v w) code
-second_way v w code a = record { ends = λ e. or_right v.ends w.ends (a.ends e); exits = λ d e. or_right (v.exits d) (w.exits d) (a.exits d e) }
+second_way v w code a = record { ends = λ e. or_right v.ends w.ends (a.ends e); exits = λ d l e. or_right (v.exits d) (w.exits d) (a.exits d l e) }
 
 pub ended_zero : (code : ℕ) → has_ended code ≡ true → code ≡ 0
 ended_zero code h = grind (arith, nat_tests)
@@ -45,17 +46,35 @@ pub turn_goes : (v w : Ways) (code : ℕ) → v.ends ≡ true → Allows w code 
 turn_goes v w code h a =
     record {
       ends = λ e. both_true v.ends w.ends h (a.ends e);
-      exits = λ d e. or_right (v.exits d) (v.ends && w.exits d) (both_true v.ends (w.exits d) h (a.exits d e));
+      exits = λ d l e. or_right (v.exits d) (v.ends && w.exits d) (both_true v.ends (w.exits d) h (a.exits d l e));
     }
 
 pub turn_stays : (v w : Ways) (code : ℕ) → code ≢ 0 → Allows v code → Allows (in_turn v w) code
-turn_stays v w code h a = record { ends = λ e. absurd (h e); exits = λ d e. or_left (v.exits d) (v.ends && w.exits d) (a.exits d e) }
+turn_stays v w code h a = record { ends = λ e. absurd (h e); exits = λ d l e. or_left (v.exits d) (v.ends && w.exits d) (a.exits d l e) }
+
+-- the codes of a trap, from that of its body
+own_exit : (w : Ways) (code : ℕ) → (code == exit_code 0) ≡ true → Allows w code → w.exits 0 ≡ true
+own_exit w code h a = let e : code ≡ 2 = grind (arith, nat_tests) in a.exits 0 (omega arith) e
+
+within_exit : (w : Ways) (code : ℕ) → has_exited code ≡ true → (code == exit_code 0) ≡ false → Allows w code → Allows (within_trap w) (code - 1)
+within_exit w code h n a =
+    let low : 2 < code = grind (arith, nat_tests) in
+    let high : code < 66 = grind (arith, nat_tests) in
+    record { ends = λ e. absurd (omega (arith, e, low)); exits = λ d l e. a.exits (suc d) (omega (arith, e, low, high)) (omega (arith, e, low)) }
+
+other_code : (w : Ways) (code : ℕ) → has_exited code ≡ false → Allows w code → Allows (within_trap w) code
+other_code w code h a = record {
+  ends = λ e. or_left w.ends (w.exits 0) (a.ends e);
+  exits = λ d l e. let f : ⊥ = grind (arith, nat_tests) in absurd f;
+}
 
 pub trapped : (w : Ways) (code : ℕ) → Allows w code → Allows (within_trap w) (code_of_trap code)
-trapped w zero a = ends (within_trap w) (or_left w.ends (w.exits 0) (a.ends refl))
-trapped w (suc zero) a = pauses (within_trap w)
-trapped w (suc (suc zero)) a = ends (within_trap w) (or_right w.ends (w.exits 0) (a.exits 0 refl))
-trapped w (suc (suc (suc n))) a = record { ends = λ e. cc; exits = λ d e. a.exits (suc d) (ap suc e) }
+trapped w code a = by_tests (code == exit_code 0) (has_exited code) refl refl
+  where
+    by_tests : (own out : Bool) → (code == exit_code 0) ≡ own → has_exited code ≡ out → Allows (within_trap w) (cond own 0 (cond out (code - 1) code))
+    by_tests true out e f = ends (within_trap w) (or_right w.ends (w.exits 0) (own_exit w code e a))
+    by_tests false true e f = within_exit w code f e a
+    by_tests false false e f = other_code w code f a
 
 both_zero : (a b : ℕ) → max a b ≡ 0 → (a ≡ 0) × (b ≡ 0)
 both_zero a b e = (omega arith, omega arith)
@@ -68,16 +87,18 @@ pub beside_allows : (v w : Ways) (a b : ℕ) → Allows v a → Allows w b → A
 beside_allows v w a b p q =
     record {
       ends = λ e. both_true v.ends w.ends (p.ends (both_zero a b e).0) (q.ends (both_zero a b e).1);
-      exits = λ d e. ⊎_elim (λ h. or_left (v.exits d) (w.exits d) (p.exits d h)) (λ h. or_right (v.exits d) (w.exits d) (q.exits d h)) (which a b (exit_code d) e);
+      exits = λ d l e. ⊎_elim (λ h. or_left (v.exits d) (w.exits d) (p.exits d l h)) (λ h. or_right (v.exits d) (w.exits d) (q.exits d l h)) (which a b (exit_code d) e);
     }
 
 same_depth : (d e : ℕ) → exit_code d ≡ exit_code e → (d == e) ≡ true
 same_depth d e h = grind (arith, nat_tests)
 
 pub weakly : (w : Ways) (e : Bool) (code : ℕ) → e ≡ true → Allows w code → Allows (record { ends = e; exits = w.exits }) (code_of_weak_abort code)
-weakly w e zero h a = record { ends = λ p. h; exits = λ d p. cc }
-weakly w e (suc zero) h a = record { ends = λ p. h; exits = λ d p. cc }
-weakly w e (suc (suc n)) h a = record { ends = λ p. cc; exits = a.exits }
+weakly w e code h a = by_test (has_paused code)
+  where
+    by_test : (b : Bool) → Allows (record { ends = e; exits = w.exits }) (cond b 0 code)
+    by_test true = ends (record { ends = e; exits = w.exits }) h
+    by_test false = record { ends = λ p. h; exits = a.exits }
 
 pub continues_allow :
     (second : (ℕ → ℤ) → Tick → Type 0) (q : Stmt) (a o : Tick) (v w : Ways) (is_over : Bool)
@@ -133,7 +154,7 @@ starting_allows tables last (Trap p) env x o h =
     at_code (within_trap (starting p)) o (as_whole (code_of_trap a.code) (Trap a.rest) a) h.2
     (trapped (starting p) a.code (starting_allows tables last p env x a h.1))
 starting_allows tables last (Exit n) env x o h =
-    at_code (exits_to n) o (quiet (exit_code n) Nothing x) h (record { ends = λ e. cc; exits = λ d e. same_depth n d e })
+    at_code (exits_to n) o (quiet (exit_code n) Nothing x) h (record { ends = λ e. cc; exits = λ d l e. same_depth n d e })
 starting_allows tables last (Abort weak armed t p) env x o h =
     abort_allows weak (armed && holds env t) (λ a. Ticks tables last p env x a) (λ a. Abort weak true t a.rest) x o
     (starting p) (armed || (starting p).ends)

@@ -1,7 +1,4 @@
-pub mod Signals
-pub mod Expressions
-pub mod TickRule
-pub mod LegalTick
-pub mod Registers
-pub mod Mentions
 pub mod Rows
+pub mod ShownTicks
+pub mod Worked
+pub mod definitions

@@ -5,10 +5,11 @@ use Rattle.kernel_terms.specs.declared.tables.SignalInfo.{SignalInfo}
 use Rattle.kernel_terms.specs.declared.tables.Tables.{Tables}
 use Rattle.kernel_terms.specs.declared.tables.Sort.TheVariants as sort
 use Rattle.kernel_terms.specs.declared.tables.Combine.TheVariants as combine
+use Rattle.kernel_terms.specs.Marks.{Mark, Going}
 use Rattle.kernel_terms.specs.Expressions.{Expression, Literal, SignalValue, ChannelValue, IsPresent}
 use Rattle.kernel_terms.specs.Statements.{Stmt, Nothing, Pause, Emit, Present, Seq, Loop, Par, Trap, Exit, Abort, Suspend, Local, Receive, ReceiveWaits, Received}
-use Rattle.kernel_rules.specs.Signals.{Emission}
-use Rattle.kernel_rules.specs.LegalTick.{DomainState, Inputs, IsLegalTick}
+use Rattle.kernel_rules.specs.definitions.Signals.{Emission}
+use Rattle.kernel_rules.specs.definitions.LegalTick.{DomainState, Inputs, IsLegalTick}
 
 abbrev pub pure : List ℕ → SignalInfo
 pure name = record { name = name; domain = 0; sort = sort.Output; kind = None; combine = combine.Max }
@@ -31,11 +32,7 @@ signals_alone signals = record { signals = signals; channels = []; variables = [
 
 -- a domain before its first tick
 abbrev pub at_start : Stmt → DomainState
-at_start p = record { statement = p; variables = λ x. pos 0; values = λ s. pos 0; last = λ c. pos 0; ticks = 0; ended = false }
-
--- nothing is handed in
-abbrev pub no_inputs : Inputs
-no_inputs s n = None
+at_start p = record { statement = p; variables = λ x. pos 0; values = λ s. pos 0; last = λ c. pos 0; ticks = 0; mark = Going }
 
 -- the pure signal 0 is handed in at this tick alone
 abbrev pub first_signal_at : ℕ → Inputs
@@ -47,12 +44,12 @@ MakesTicks tables inputs old [] new = old ≡ new
 MakesTicks tables inputs old (row ∷ rows) new = (next : DomainState) × IsLegalTick tables inputs 0 old row next × MakesTicks tables inputs next rows new
 
 -- A domain makes legal ticks from its start, which the log shows as these rows; then this statement is
--- left, and the domain has ended or hasn't.
-pub record Logs (tables : Tables) (inputs : Inputs) (p : Stmt) (rows : List (List (Option ℤ))) (rest : Stmt) (is_over : Bool) : Type 0 where
+-- left, and the domain stands so.
+pub record Logs (tables : Tables) (inputs : Inputs) (p : Stmt) (rows : List (List (Option ℤ))) (rest : Stmt) (mark : Mark) : Type 0 where
   pub state : DomainState
   pub ticks : MakesTicks tables inputs (at_start p) rows state
   pub leaves : state.statement ≡ rest
-  pub over : state.ended ≡ is_over
+  pub stands : state.mark ≡ mark
 
 -- a pure signal that is present, and any signal that is absent
 abbrev pub on : Option ℤ

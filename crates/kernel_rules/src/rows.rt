@@ -3,9 +3,11 @@
 ghost use Rattle.std.specs.Prelude.{◌≡◌, ℕ, ℤ, true, false, List, [], ◌∷◌};
 ghost use Rattle.kernel_terms.specs.declared.tables.Tables.{Tables};
 ghost use Rattle.kernel_terms.specs.Expressions.{Test};
+ghost use Rattle.kernel_terms.specs.Marks.{Going, Ended};
 ghost use Rattle.kernel_terms.specs.Statements.{Stmt, Nothing, Abort, Suspend};
-ghost use Rattle.kernel_rules.specs.Expressions.{holds};
-ghost use Rattle.kernel_rules.specs.Rows.{Logs, no_inputs, first_signal_at};
+ghost use Rattle.kernel_rules.specs.definitions.Expressions.{holds};
+ghost use Rattle.kernel_rules.specs.Rows.{Logs, first_signal_at};
+ghost use Rattle.kernel_rules.specs.definitions.LegalTick.{no_inputs};
 ghost use Rattle.kernel_rules.specs.Rows.{on, off, with, emitted_alone};
 ghost use Rattle.kernel_rules.specs.Rows.{sibling_tables, sibling};
 ghost use Rattle.kernel_rules.specs.Rows.{abort_tables, aborted, endless_aborted, armed_abort};
@@ -13,31 +15,32 @@ ghost use Rattle.kernel_rules.specs.Rows.{new_copy_tables, new_copy, old_copy};
 ghost use Rattle.kernel_rules.specs.Rows.{new_value_tables, new_value, old_value};
 ghost use Rattle.kernel_rules.specs.Rows.{channel_tables, suspended, waiting, served};
 ghost use Rattle.kernel_rules.specs.Rows.{copies_tables, copies, old_copies};
-ghost use Rattle.kernel_rules.specs.Signals.{Env, is_emitted};
-ghost use Rattle.kernel_rules.specs.TickRule.{Tick, Ticks, quiet, ends_with};
+ghost use Rattle.kernel_rules.specs.ShownTicks.{OnlyLogs};
+ghost use Rattle.kernel_rules.specs.definitions.Signals.{Env, is_emitted};
+ghost use Rattle.kernel_rules.specs.definitions.TickRule.{Tick, Ticks, paused_code, quiet, ends_with};
 
 /// Where one part of a parallel exits from the trap round it, the other part runs in that tick all
 /// the same.
 pub fn sibling_runs_in_exiting_tick()
-    ensures { Logs sibling_tables no_inputs sibling
-        ((on ∷ off ∷ []) ∷ (on ∷ on ∷ []) ∷ []) Nothing true }
+    ensures { OnlyLogs sibling_tables no_inputs sibling
+        ((on ∷ off ∷ []) ∷ (on ∷ on ∷ []) ∷ []) Nothing Ended }
 {}
 
 /// The body of a weak abort ticks once more when the test holds, and then the abort ends, also where
 /// the body pauses.
 pub fn weak_abort_runs_its_body()
-    ensures ending { Logs abort_tables (first_signal_at 2) (aborted true)
-        ((off ∷ on ∷ off ∷ []) ∷ (on ∷ on ∷ on ∷ []) ∷ []) Nothing true }
-    ensures pausing { Logs abort_tables (first_signal_at 2) endless_aborted
-        ((off ∷ on ∷ off ∷ []) ∷ (on ∷ on ∷ on ∷ []) ∷ []) Nothing true }
+    ensures ending { OnlyLogs abort_tables (first_signal_at 2) (aborted true)
+        ((off ∷ on ∷ off ∷ []) ∷ (on ∷ on ∷ on ∷ []) ∷ []) Nothing Ended }
+    ensures pausing { OnlyLogs abort_tables (first_signal_at 2) endless_aborted
+        ((off ∷ on ∷ off ∷ []) ∷ (on ∷ on ∷ on ∷ []) ∷ []) Nothing Ended }
 {}
 
 /// The body of a strong abort doesn't tick when the test holds, and emits nothing in that tick.
 pub fn strong_abort_stops_its_body()
-    ensures begins { Logs abort_tables (first_signal_at 2) (aborted false)
-        ((off ∷ on ∷ off ∷ []) ∷ []) armed_abort false }
-    ensures logs { Logs abort_tables (first_signal_at 2) (aborted false)
-        ((off ∷ on ∷ off ∷ []) ∷ (on ∷ off ∷ on ∷ []) ∷ []) Nothing true }
+    ensures begins { OnlyLogs abort_tables (first_signal_at 2) (aborted false)
+        ((off ∷ on ∷ off ∷ []) ∷ []) armed_abort Going }
+    ensures logs { OnlyLogs abort_tables (first_signal_at 2) (aborted false)
+        ((off ∷ on ∷ off ∷ []) ∷ (on ∷ off ∷ on ∷ []) ∷ []) Nothing Ended }
     ensures silent { (last : ℕ → ℤ) (env : Env) (x : ℕ → ℤ) (o : Tick) → (env 0).present ≡ true
         → Ticks abort_tables last armed_abort env x o → is_emitted o.emits 1 ≡ false }
     ensures alone { (tables : Tables) (last : ℕ → ℤ) (t : Test) (p : Stmt) (env : Env) (x : ℕ → ℤ)
@@ -48,9 +51,9 @@ pub fn strong_abort_stops_its_body()
 /// Each turn of a loop has a local signal of its own: what the last turn emitted of its own one
 /// isn't seen in the next, and each tick emits B alone.
 pub fn new_copy_of_local_each_turn()
-    ensures first { Logs new_copy_tables no_inputs new_copy ((off ∷ on ∷ []) ∷ []) old_copy false }
+    ensures first { Logs new_copy_tables no_inputs new_copy ((off ∷ on ∷ []) ∷ []) old_copy Going }
     ensures second { Logs new_copy_tables no_inputs new_copy
-        ((off ∷ on ∷ []) ∷ (off ∷ on ∷ []) ∷ []) old_copy false }
+        ((off ∷ on ∷ []) ∷ (off ∷ on ∷ []) ∷ []) old_copy Going }
     ensures new { (last : ℕ → ℤ) (env : Env) (x : ℕ → ℤ) (o : Tick)
         → Ticks new_copy_tables last new_copy env x o → o.emits ≡ emitted_alone 1 0 }
     ensures old { (last : ℕ → ℤ) (env : Env) (x : ℕ → ℤ) (o : Tick)
@@ -59,9 +62,9 @@ pub fn new_copy_of_local_each_turn()
 
 /// A local signal that is begun anew has the value 0 again, in every tick.
 pub fn new_copy_has_first_value()
-    ensures first { Logs new_value_tables no_inputs new_value ((with 0 ∷ []) ∷ []) old_value false }
+    ensures first { Logs new_value_tables no_inputs new_value ((with 0 ∷ []) ∷ []) old_value Going }
     ensures second { Logs new_value_tables no_inputs new_value
-        ((with 0 ∷ []) ∷ (with 0 ∷ []) ∷ []) old_value false }
+        ((with 0 ∷ []) ∷ (with 0 ∷ []) ∷ []) old_value Going }
     ensures new { (last : ℕ → ℤ) (env : Env) (x : ℕ → ℤ) (o : Tick)
         → Ticks new_value_tables last new_value env x o → o.emits ≡ emitted_alone 0 0 }
     ensures old { (last : ℕ → ℤ) (env : Env) (x : ℕ → ℤ) (o : Tick)
@@ -72,11 +75,11 @@ pub fn new_copy_has_first_value()
 /// then ends in the next tick in which the test doesn't hold.
 pub fn suspended_receive_waits()
     ensures begins { (last : ℕ → ℤ) (env : Env) (x : ℕ → ℤ)
-        → Ticks channel_tables last suspended env x (quiet 1 waiting x) }
+        → Ticks channel_tables last suspended env x (quiet paused_code waiting x) }
     ensures waits { (last : ℕ → ℤ) (env : Env) (x : ℕ → ℤ)
-        → Ticks channel_tables last waiting env x (quiet 1 waiting x) }
+        → Ticks channel_tables last waiting env x (quiet paused_code waiting x) }
     ensures held { (last : ℕ → ℤ) (env : Env) (x : ℕ → ℤ) → (env 0).present ≡ true
-        → Ticks channel_tables last served env x (quiet 1 served x) }
+        → Ticks channel_tables last served env x (quiet paused_code served x) }
     ensures ends { (last : ℕ → ℤ) (env : Env) (x : ℕ → ℤ) → (env 0).present ≡ false
         → Ticks channel_tables last served env x
         (ends_with (record { signal = 1; value = last 0 } ∷ []) x) }
@@ -86,15 +89,15 @@ pub fn suspended_receive_waits()
 pub fn suspended_statement_stays()
     ensures { (tables : Tables) (last : ℕ → ℤ) (t : Test) (p : Stmt) (env : Env) (x : ℕ → ℤ)
         (o : Tick) → holds env t ≡ true → Ticks tables last (Suspend true t p) env x o
-        → o ≡ quiet 1 (Suspend true t p) x }
+        → o ≡ quiet paused_code (Suspend true t p) x }
 {}
 
 /// Three copies of one local signal tick in one tick, each with a value of its own.
 pub fn three_copies_in_one_tick()
-    ensures first { Logs copies_tables (first_signal_at 2) copies
-        ((off ∷ with 1 ∷ []) ∷ []) old_copies false }
-    ensures second { Logs copies_tables (first_signal_at 2) copies
-        ((off ∷ with 1 ∷ []) ∷ (on ∷ with 7 ∷ []) ∷ []) old_copies false }
-    ensures third { Logs copies_tables (first_signal_at 2) copies
-        ((off ∷ with 1 ∷ []) ∷ (on ∷ with 7 ∷ []) ∷ (off ∷ with 6 ∷ []) ∷ []) old_copies false }
+    ensures first { OnlyLogs copies_tables (first_signal_at 2) copies
+        ((off ∷ with 1 ∷ []) ∷ []) old_copies Going }
+    ensures second { OnlyLogs copies_tables (first_signal_at 2) copies
+        ((off ∷ with 1 ∷ []) ∷ (on ∷ with 7 ∷ []) ∷ []) old_copies Going }
+    ensures third { OnlyLogs copies_tables (first_signal_at 2) copies
+        ((off ∷ with 1 ∷ []) ∷ (on ∷ with 7 ∷ []) ∷ (off ∷ with 6 ∷ []) ∷ []) old_copies Going }
 {}

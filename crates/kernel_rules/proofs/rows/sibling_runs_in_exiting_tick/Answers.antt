@@ -1,5 +1,5 @@
-use Rattle.kernel_rules.proofs.RowLemmas.{sibling_logs}
+use Rattle.kernel_rules.proofs.RowsAlone.{sibling_alone}
 use Rattle.kernel_rules.proofs.rows.sibling_runs_in_exiting_tick.Goals as goal
 
 pub returns : goal.returns
-returns c = sibling_logs
+returns c = sibling_alone

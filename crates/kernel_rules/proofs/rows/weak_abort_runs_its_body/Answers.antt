@@ -1,8 +1,8 @@
-use Rattle.kernel_rules.proofs.RowLemmas.{weak_abort_logs, endless_abort_logs}
+use Rattle.kernel_rules.proofs.RowsAlone.{weak_abort_alone, endless_abort_alone}
 use Rattle.kernel_rules.proofs.rows.weak_abort_runs_its_body.Goals as goal
 
 pub returns-clause-ending : goal.returns-clause-ending
-returns-clause-ending c = weak_abort_logs
+returns-clause-ending c = weak_abort_alone
 
 pub returns-clause-pausing : goal.returns-clause-pausing
-returns-clause-pausing c = endless_abort_logs
+returns-clause-pausing c = endless_abort_alone

@@ -1,0 +1,5 @@
+use Rattle.kernel_rules.proofs.Alone.{one_tick}
+use Rattle.kernel_rules.proofs.laws.environment_decides_tick.Goals as goal
+
+pub returns : goal.returns
+returns c = one_tick

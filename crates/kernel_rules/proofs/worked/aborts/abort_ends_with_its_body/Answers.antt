@@ -1,0 +1,9 @@
+use Rattle.std.proofs.Common.{refl}
+use Rattle.kernel_rules.proofs.Showing.{shows}
+use Rattle.kernel_rules.proofs.worked.aborts.abort_ends_with_its_body.Goals as goal
+
+pub returns-clause-strong : goal.returns-clause-strong
+returns-clause-strong c = shows _ _ _ _ _ refl
+
+pub returns-clause-weak : goal.returns-clause-weak
+returns-clause-weak c = shows _ _ _ _ _ refl

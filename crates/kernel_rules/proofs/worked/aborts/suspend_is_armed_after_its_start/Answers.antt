@@ -1,0 +1,9 @@
+use Rattle.std.proofs.Common.{refl}
+use Rattle.kernel_rules.proofs.Showing.{shows}
+use Rattle.kernel_rules.proofs.worked.aborts.suspend_is_armed_after_its_start.Goals as goal
+
+pub returns-clause-stays : goal.returns-clause-stays
+returns-clause-stays c = shows _ _ _ _ _ refl
+
+pub returns-clause-assigns : goal.returns-clause-assigns
+returns-clause-assigns c = shows _ _ _ _ _ refl

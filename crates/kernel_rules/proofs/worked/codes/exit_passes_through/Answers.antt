@@ -1,0 +1,21 @@
+use Rattle.std.proofs.Common.{refl}
+use Rattle.kernel_rules.proofs.Showing.{shows}
+use Rattle.kernel_rules.proofs.worked.codes.exit_passes_through.Goals as goal
+
+pub returns-clause-sequence : goal.returns-clause-sequence
+returns-clause-sequence c = shows _ _ _ _ _ refl
+
+pub returns-clause-of_second : goal.returns-clause-of_second
+returns-clause-of_second c = shows _ _ _ _ _ refl
+
+pub returns-clause-loop_ : goal.returns-clause-loop_
+returns-clause-loop_ c = shows _ _ _ _ _ refl
+
+pub returns-clause-suspend : goal.returns-clause-suspend
+returns-clause-suspend c = shows _ _ _ _ _ refl
+
+pub returns-clause-weak : goal.returns-clause-weak
+returns-clause-weak c = shows _ _ _ _ _ refl
+
+pub returns-clause-aborted : goal.returns-clause-aborted
+returns-clause-aborted c = shows _ _ _ _ _ refl

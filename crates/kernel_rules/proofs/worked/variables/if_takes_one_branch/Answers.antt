@@ -1,0 +1,9 @@
+use Rattle.std.proofs.Common.{refl}
+use Rattle.kernel_rules.proofs.Showing.{shows}
+use Rattle.kernel_rules.proofs.worked.variables.if_takes_one_branch.Goals as goal
+
+pub returns-clause-first : goal.returns-clause-first
+returns-clause-first c = shows _ _ _ _ _ refl
+
+pub returns-clause-second : goal.returns-clause-second
+returns-clause-second c = shows _ _ _ _ _ refl

@@ -1,0 +1,9 @@
+pub mod Words
+pub mod Variables
+pub mod Codes
+pub mod Aborts
+pub mod Locals
+pub mod Domains
+pub mod Readings
+pub mod SmallDomain
+pub mod Ways

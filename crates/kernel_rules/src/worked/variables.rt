@@ -1,0 +1,114 @@
+//! Ticks of statements on variables.
+
+ghost use Rattle.std.specs.Prelude.{◌≡◌, ℕ, ℤ, true, false, [], ◌∷◌, map};
+ghost use Rattle.std.specs.List.{list_all, list_any};
+ghost use Rattle.kernel_terms.specs.declared.tables.Tables.{Tables};
+ghost use Rattle.kernel_terms.specs.Statements.{Loop, Nothing, Par, Pause, Seq};
+ghost use Rattle.kernel_rules.specs.definitions.Signals.{Env};
+ghost use Rattle.kernel_rules.specs.definitions.TickRule.{Tick, Ticks, writes};
+ghost use Rattle.kernel_rules.specs.ShownTicks.{Shows, pauses, ends, pauses_in, ends_in};
+ghost use Rattle.kernel_rules.specs.ShownTicks.{emitted, statuses, absent, absent_with, present};
+ghost use Rattle.kernel_rules.specs.Worked.Words.{no_tables, variable, emit, emit_value, assign};
+ghost use Rattle.kernel_rules.specs.Worked.Variables.{assigned_twice, summed_up, two_pauses};
+ghost use Rattle.kernel_rules.specs.Worked.Variables.{branched, asked, counted};
+ghost use Rattle.kernel_rules.specs.Worked.Variables.{beside_then_shown, assigns_and_pauses};
+ghost use Rattle.kernel_rules.specs.Worked.Variables.{pauses_twice, may_assign};
+ghost use Rattle.kernel_rules.specs.Worked.Variables.{forms_around, forms_alone};
+ghost use Rattle.kernel_rules.specs.Worked.Variables.{mentioning, tested, waits, numbers};
+ghost use Rattle.kernel_rules.specs.definitions.Mentions.{mentions_variable, mentions_signal, mentions_channel};
+
+/// The second part of a sequence reads what the first has assigned, and the first reads nothing of
+/// the second. An assignment changes one variable, and it lasts.
+pub fn sequence_hands_on_variables()
+    ensures twice { Shows no_tables assigned_twice (ends (emitted 0 1 ∷ []) ∷ []) }
+    ensures sum { Shows no_tables summed_up
+        (pauses [] ∷ ends (emitted 0 3 ∷ emitted 1 2 ∷ []) ∷ ends [] ∷ []) }
+{}
+
+/// The second part of a sequence begins when the first has ended, and not before.
+pub fn sequence_waits_for_its_first_part()
+    ensures { Shows no_tables two_pauses
+        (pauses (emitted 0 0 ∷ []) ∷ pauses (emitted 1 0 ∷ []) ∷ ends [] ∷ ends [] ∷ []) }
+{}
+
+/// An `if` takes its first branch where its condition is true, and else the second, and stays in it.
+pub fn if_takes_one_branch()
+    ensures first { Shows no_tables (branched true)
+        (pauses (emitted 0 0 ∷ []) ∷ ends (emitted 0 0 ∷ []) ∷ []) }
+    ensures second { Shows no_tables (branched false) (ends (emitted 1 0 ∷ []) ∷ ends [] ∷ []) }
+{}
+
+/// A `present` takes its first branch where its test holds, and else the second, also where the absent
+/// signal has a value, and doesn't look again later.
+pub fn present_takes_one_branch()
+    ensures first { Shows no_tables asked
+        (pauses_in (statuses (absent ∷ absent ∷ present ∷ [])) (emitted 0 0 ∷ [])
+        ∷ ends (emitted 0 0 ∷ []) ∷ []) }
+    ensures second { Shows no_tables asked
+        (ends_in (statuses (present ∷ present ∷ absent_with 1 ∷ [])) (emitted 1 0 ∷ []) ∷ ends [] ∷ []) }
+{}
+
+/// A loop begins its body anew in the tick in which the body ends, from the variables that it left.
+pub fn loop_begins_anew()
+    ensures { Shows no_tables counted
+        (pauses (emitted 0 1 ∷ []) ∷ pauses (emitted 1 1 ∷ emitted 0 2 ∷ [])
+        ∷ pauses (emitted 1 2 ∷ emitted 0 3 ∷ []) ∷ []) }
+{}
+
+/// A loop whose body ends in its starting tick has no tick.
+pub fn endless_turn_has_no_tick()
+    ensures { (tables : Tables) (last : ℕ → ℤ) (env : Env) (x : ℕ → ℤ) (o : Tick)
+        → Ticks tables last (Loop Nothing) env x o → ⊥ }
+{}
+
+/// After a parallel the variables that its first branch may assign come from it, whether it has
+/// assigned them or not, and all others from the second.
+pub fn parallel_joins_variables()
+    ensures first { Shows no_tables (beside_then_shown (assigns_and_pauses 1) pauses_twice)
+        (pauses [] ∷ pauses [] ∷ ends (emitted 1 1 ∷ []) ∷ []) }
+    ensures second { Shows no_tables (beside_then_shown pauses_twice (assigns_and_pauses 1))
+        (pauses [] ∷ pauses [] ∷ ends (emitted 1 1 ∷ []) ∷ []) }
+    ensures both { Shows no_tables (beside_then_shown (assign 0 1) (assign 0 2))
+        (ends (emitted 1 1 ∷ []) ∷ []) }
+    ensures unassigned { Shows no_tables (beside_then_shown may_assign (assign 0 2))
+        (ends (emitted 1 0 ∷ []) ∷ []) }
+{}
+
+/// A statement may assign the variables that an assignment in it names, and no others.
+pub fn statement_assigns_what_it_names()
+    ensures named { writes (assign 1 5) 1 ≡ true }
+    ensures other { writes (assign 1 5) 0 ≡ false }
+    ensures around { list_all (λ p. writes p 1) (forms_around (assign 1 5)) ≡ true }
+    ensures around_other { list_any (λ p. writes p 0) (forms_around (assign 1 5)) ≡ false }
+    ensures alone { list_any (λ p. writes p 0) forms_alone ≡ false }
+{}
+
+/// A statement mentions the variables, signals and channels that it or one of its parts names, and no
+/// others.
+pub fn statement_mentions_what_it_names()
+    ensures variables { map (λ x. mentions_variable mentioning x) numbers
+        ≡ true ∷ true ∷ true ∷ true ∷ true ∷ false ∷ [] }
+    ensures signals { map (λ s. mentions_signal mentioning s) numbers
+        ≡ true ∷ true ∷ true ∷ true ∷ false ∷ true ∷ [] }
+    ensures channels { map (λ c. mentions_channel mentioning c) numbers
+        ≡ true ∷ true ∷ true ∷ false ∷ true ∷ true ∷ [] }
+    ensures tests { map (λ s. mentions_signal tested s) numbers
+        ≡ false ∷ true ∷ true ∷ true ∷ true ∷ false ∷ [] }
+    ensures waiting { map (λ c. mentions_channel waits c) numbers
+        ≡ true ∷ true ∷ true ∷ true ∷ false ∷ false ∷ [] }
+    ensures around { list_all (λ p. mentions_variable p 3) (forms_around (assign 3 5)) ≡ true }
+    ensures around_other { list_any (λ p. mentions_variable p 2) (forms_around (assign 3 5)) ≡ false }
+{}
+
+/// Neither branch of a parallel reads what the other assigns in the tick, and the first one's
+/// emissions come first.
+pub fn branches_read_old_variables()
+    ensures second { Shows no_tables (Par (assign 0 1) (emit_value 0 (variable 0)))
+        (ends (emitted 0 0 ∷ []) ∷ []) }
+    ensures first { Shows no_tables (Par (emit_value 0 (variable 0)) (assign 0 1))
+        (ends (emitted 0 0 ∷ []) ∷ []) }
+    ensures order { Shows no_tables (Par two_pauses (emit_value 1 (variable 0)))
+        (pauses (emitted 0 0 ∷ emitted 1 0 ∷ []) ∷ pauses (emitted 1 0 ∷ []) ∷ ends [] ∷ []) }
+    ensures later_order { Shows no_tables (Par (Seq Pause (emit 0)) (Seq Pause (emit 1)))
+        (pauses [] ∷ ends (emitted 0 0 ∷ emitted 1 0 ∷ []) ∷ []) }
+{}

@@ -1,0 +1,32 @@
+//! Whether small statements may end and exit, in their starting tick and in a later one.
+
+ghost use Rattle.std.specs.Prelude.{◌≡◌, true, false, ◌||◌};
+ghost use Rattle.std.specs.List.{list_all, list_any};
+ghost use Rattle.kernel_terms.specs.MayEnd.{ends0, ends1, exits0, exits1};
+ghost use Rattle.kernel_rules.specs.Worked.Ways.{ending_at_once, not_ending_at_once};
+ghost use Rattle.kernel_rules.specs.Worked.Ways.{ending_later, not_ending_later};
+ghost use Rattle.kernel_rules.specs.Worked.Ways.{staying, not_staying, abort_of};
+ghost use Rattle.kernel_rules.specs.Worked.Ways.{exiting_at_once, not_exiting_at_once};
+ghost use Rattle.kernel_rules.specs.Worked.Ways.{exiting_later, not_exiting_later, not_exiting};
+
+/// Which statements of each form may end in their starting tick, and which in a later one. An abort may
+/// end later exactly if its body has a later tick.
+pub fn shape_tells_ends()
+    ensures at_once { list_all ends0 ending_at_once ≡ true }
+    ensures not_at_once { list_any ends0 not_ending_at_once ≡ false }
+    ensures later { list_all ends1 ending_later ≡ true }
+    ensures not_later { list_any ends1 not_ending_later ≡ false }
+    ensures aborted { list_all (λ p. ends1 (abort_of false false p)) staying ≡ true }
+    ensures not_aborted { list_any (λ p. ends1 (abort_of false false p)) not_staying ≡ false }
+{}
+
+/// Which statements of each form may exit to the trap of the depth 1 in their starting tick, and which in
+/// a later one. The other forms without parts exit in neither.
+pub fn shape_tells_exits()
+    ensures at_once { list_all (λ p. exits0 p 1) exiting_at_once ≡ true }
+    ensures not_at_once { list_any (λ p. exits0 p 1) not_exiting_at_once ≡ false }
+    ensures later { list_all (λ p. exits1 p 1) exiting_later ≡ true }
+    ensures not_later { list_any (λ p. exits1 p 1) not_exiting_later ≡ false }
+    ensures none { list_any (λ p. exits0 p 0 || exits0 p 1) not_exiting ≡ false }
+    ensures none_later { list_any (λ p. exits1 p 0 || exits1 p 1) not_exiting ≡ false }
+{}
