@@ -1,0 +1,5 @@
+use Rattle.tick_tree.proofs.Fitting.{fitting_exits}
+use Rattle.tick_tree.proofs.laws.program_exits_fit.Goals as goal
+
+pub returns : goal.returns
+returns c = fitting_exits

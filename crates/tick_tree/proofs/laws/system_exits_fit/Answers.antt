@@ -1,0 +1,5 @@
+use Rattle.tick_tree.proofs.Fitting.{fitting_system}
+use Rattle.tick_tree.proofs.laws.system_exits_fit.Goals as goal
+
+pub returns : goal.returns
+returns c = fitting_system

@@ -1,0 +1,4 @@
+pub mod Laws
+pub mod Measures
+pub mod Rows
+pub mod definitions

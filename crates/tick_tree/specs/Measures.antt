@@ -1,0 +1,38 @@
+-- What one walk over a statement finds: the ways of its ticks, and the weights of its trees.
+use Rattle.std.specs.Prelude.{◌≡◌, ℕ, Bool, cond, List, [], ◌∷◌, Option, Some, None}
+use Rattle.std.specs.Int.{bit_at}
+use Rattle.kernel_terms.specs.Statements.{Stmt}
+use Rattle.kernel_terms.specs.MayEnd.{Ways, starting, resuming, resumes}
+use Rattle.tick_tree.specs.definitions.Shapes.{starting_shape, resuming_shape}
+use Rattle.tick_tree.specs.definitions.Weight.{capped, weight_of_shape, weight_of_some, nowhere}
+use Rattle.tick_tree.specs.declared.measure.Exits.{Exits}
+use Rattle.tick_tree.specs.declared.measure.Measure.{Measure}
+
+abbrev pub starting_weight : Stmt → ℕ
+starting_weight p = weight_of_shape (starting_shape nowhere 0 p)
+
+abbrev pub resuming_weight : Stmt → ℕ
+resuming_weight p = weight_of_some (resuming_shape nowhere 0 p)
+
+abbrev pub bit_of : Bool → ℕ
+bit_of b = cond b 1 0
+
+-- the bit of a depth tells whether there is an exit to the trap of this depth
+pub record AreWays (w : Ways) (found : Exits) : Type 0 where
+  pub may_end : found.ends ≡ w.ends
+  pub may_exit : (d : ℕ) → bit_at found.traps d ≡ bit_of (w.exits d)
+
+-- it is what a walk over this statement finds
+pub record IsMeasure (p : Stmt) (found : Measure) : Type 0 where
+  pub at_start : AreWays (starting p) found.starting
+  pub at_later : AreWays (resuming p) found.resuming
+  pub goes_on : found.resumes ≡ resumes p
+  pub weight_at_start : found.starting_weight ≡ capped (starting_weight p)
+  pub weight_later : found.resuming_weight ≡ capped (resuming_weight p)
+
+-- Of parts that nest to the right, where there are any.
+abbrev pub IsMeasureOfParts : (Stmt → List Stmt → Stmt) → List Stmt → Option Measure → Type 0
+IsMeasureOfParts nested [] None = Unit {0}
+IsMeasureOfParts nested [] (Some m) = ⊥
+IsMeasureOfParts nested (p ∷ ps) None = ⊥
+IsMeasureOfParts nested (p ∷ ps) (Some m) = IsMeasure (nested p ps) m

@@ -1,0 +1,6 @@
+pub mod Exits
+pub mod Leaves
+pub mod Precedence
+pub mod Shapes
+pub mod Trees
+pub mod Weight
