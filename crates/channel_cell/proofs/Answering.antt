@@ -12,7 +12,7 @@ use Rattle.cell_core.specs.Ends.{StandingOffer}
 use Rattle.cell_core.specs.CellEnds.{JoinFits}
 use Rattle.channel_cell.specs.declared.rule.Knows.{Knows}
 use Rattle.channel_cell.specs.declared.rule.View.TheVariants.{Own}
-use Rattle.channel_cell.specs.Channels.{EndState, LegalFor, Makes, offer_left}
+use Rattle.channel_cell.specs.definitions.Channels.{EndState, LegalFor, Makes, offer_left}
 use Rattle.channel_cell.specs.Tallies.{Tally, tally, counted, offer_if, offer_of, most}
 use Rattle.channel_cell.specs.Lanes.{IsOwn}
 use Rattle.channel_cell.specs.Rule.{Sat, knows, knows_in}

@@ -11,7 +11,7 @@ use Rattle.cell_core.specs.declared.moves.CellMove.{CellMove}
 use Rattle.cell_core.specs.declared.moves.CellMove.TheVariants.{Offer, Recall}
 use Rattle.cell_core.specs.Cells.{stands, after_own_offer, after_offer, offer_reply, recall_reply}
 use Rattle.cell_core.specs.Histories.{entry, cell_after, entries, AllCanMove, IsCellHistory}
-use Rattle.channel_cell.specs.Channels.{turned, join_in, joins_in}
+use Rattle.channel_cell.specs.definitions.Channels.{turned, join_in, joins_in}
 
 turned_twice : (l : List Joined) → map turned (map turned l) ≡ l
 turned_twice [] = refl

@@ -10,7 +10,7 @@ use Rattle.cell_core.specs.declared.moves.CellMove.TheVariants.{Offer, Recall}
 use Rattle.cell_core.specs.CellEnds.{JoinFits}
 use Rattle.cell_core.specs.Histories.{entry}
 use Rattle.channel_cell.specs.Tallies.{Tally, none_yet, counted, tally_from, tally, offer_if, offer_of}
-use Rattle.channel_cell.specs.Channels.{EndState, turned, join_in, joins_in, Recalled, Settles}
+use Rattle.channel_cell.specs.definitions.Channels.{EndState, turned, join_in, joins_in, Recalled, Settles}
 use Rattle.channel_cell.specs.Calls.{RecalledIf, RecallsLast}
 use Rattle.channel_cell.proofs.Fits.{pushed}
 use Rattle.channel_cell.proofs.Turns.{sender_stands, receiver_stands}

@@ -13,7 +13,7 @@ use Rattle.cell_core.specs.declared.moves.CellMove.TheVariants.{Recall}
 use Rattle.cell_core.specs.Histories.{entry, IsCellHistory}
 use Rattle.cell_core.specs.Cells.{sent_value}
 use Rattle.cell_core.specs.CellEnds.{JoinFits}
-use Rattle.channel_cell.specs.Channels.{EndState, LegalFor}
+use Rattle.channel_cell.specs.definitions.Channels.{EndState, LegalFor}
 use Rattle.channel_cell.specs.declared.rule.Knows.{Knows}
 use Rattle.channel_cell.specs.declared.rule.View.{View}
 use Rattle.channel_cell.specs.declared.rule.View.TheVariants.{First, Own, Both, Spent}

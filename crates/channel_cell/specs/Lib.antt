@@ -1,5 +1,5 @@
-pub mod Channels
-pub mod Tallies
+pub mod Calls
 pub mod Lanes
 pub mod Rule
-pub mod Calls
+pub mod Tallies
+pub mod definitions

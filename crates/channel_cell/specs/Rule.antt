@@ -14,7 +14,7 @@ use Rattle.cell_core.specs.declared.moves.CellMove.TheVariants.{Offer, Recall}
 use Rattle.cell_core.specs.Cells.{other, sent_value}
 use Rattle.cell_core.specs.CellEnds.{JoinFits}
 use Rattle.cell_core.specs.Histories.{entry, cell_after, IsCellHistory}
-use Rattle.channel_cell.specs.Channels.{LegalFor}
+use Rattle.channel_cell.specs.definitions.Channels.{LegalFor}
 use Rattle.channel_cell.specs.declared.rule.Knows.{Knows}
 use Rattle.channel_cell.specs.declared.rule.View.{View}
 use Rattle.channel_cell.specs.declared.rule.View.TheVariants.{First, Own, Both, Spent}

@@ -5,7 +5,7 @@ ghost use Rattle.cell_core.specs.declared.moves.Side.TheVariants as sides;
 ghost use Rattle.cell_core.specs.declared.moves.CellMove.TheVariants as make;
 ghost use Rattle.cell_core.specs.Ends.{JoinsOffer, JoinsStanding};
 ghost use Rattle.cell_core.specs.CellEnds.{JoinFits};
-ghost use Rattle.channel_cell.specs.Channels.{IsFresh, Makes, Settles, view_of};
+ghost use Rattle.channel_cell.specs.definitions.Channels.{IsFresh, Makes, Settles, view_of};
 
 use crate::ends::{End, last_recalls, new_ends};
 use cell_core::Joined;
@@ -43,7 +43,7 @@ pub struct SenderEnd {
 impl Model for SenderEnd {
     ghost use Rattle.std.specs.Prelude.{◌≡◌};
     ghost use Rattle.cell_core.specs.declared.moves.Side.TheVariants as sides;
-    ghost use Rattle.channel_cell.specs.Channels.{EndState};
+    ghost use Rattle.channel_cell.specs.definitions.Channels.{EndState};
 
     ghost Value = { EndState };
 
@@ -97,7 +97,7 @@ pub struct ReceiverEnd {
 impl Model for ReceiverEnd {
     ghost use Rattle.std.specs.Prelude.{◌≡◌};
     ghost use Rattle.cell_core.specs.declared.moves.Side.TheVariants as sides;
-    ghost use Rattle.channel_cell.specs.Channels.{EndState};
+    ghost use Rattle.channel_cell.specs.definitions.Channels.{EndState};
 
     ghost Value = { EndState };
 

@@ -7,7 +7,7 @@ ghost use Rattle.cell_core.specs.declared.moves.Side.TheVariants as sides;
 ghost use Rattle.cell_core.specs.declared.moves.CellMove.TheVariants as make;
 ghost use Rattle.cell_core.specs.Ends.{JoinsOffer, JoinsStanding};
 ghost use Rattle.cell_core.specs.CellEnds.{JoinFits};
-ghost use Rattle.channel_cell.specs.Channels.{IsFresh, Makes, view_of, join_in};
+ghost use Rattle.channel_cell.specs.definitions.Channels.{IsFresh, Makes, view_of, join_in};
 ghost use Rattle.channel_cell.specs.Tallies.{tally, offer_of};
 ghost use Rattle.channel_cell.specs.Calls.{RecallsLast};
 
@@ -36,7 +36,7 @@ pub struct End {
 
 impl Model for End {
     ghost use Rattle.std.specs.Arc.{arc_value};
-    ghost use Rattle.channel_cell.specs.Channels.{EndState};
+    ghost use Rattle.channel_cell.specs.definitions.Channels.{EndState};
     ghost use Rattle.channel_cell.specs.Rule.{knows_in};
     ghost use Rattle.channel_cell.specs.Calls.{end_state, KeepsEnd};
 

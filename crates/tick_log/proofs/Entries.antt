@@ -2,7 +2,9 @@
 use Rattle.std.proofs.Common.{◌≡◌, ℕ, zero, suc, ℤ, Bool, get_or, Vec, Global, ◌+◌, ◌-◌, ◌*◌, ◌^◌, ◌≤◌, ◌<◌, List, [], ◌∷◌, ◌++◌, length, take, drop, refl, sym, ap, ◌∙◌, arith, vec_len, vec_capacity, Option, None, length-drop}
 use Rattle.std.proofs.lemmas.List.{take-append-le, drop-append-le, take_all, nil_from_length, get_or-take, get_or-drop, get_or_read, drop-drop}
 use Rattle.std.proofs.lemmas.Nat.{mul-add-lt}
-use Rattle.tick_log.specs.Runs.{Entry, Mark, LogState, entry_at}
+use Rattle.kernel_terms.specs.Marks.{Mark}
+use Rattle.tick_log.specs.definitions.Runs.{Entry, entry_at}
+use Rattle.tick_log.specs.definitions.Containers.{LogState}
 use Rattle.tick_log.specs.Logs.{entries_of, Keeps}
 
 mul_more : (n k : ℕ) → n * suc k ≡ n + n * k

@@ -5,7 +5,7 @@ use Rattle.std.specs.List.{filter}
 use Rattle.kernel_terms.specs.declared.tables.SignalInfo.{SignalInfo}
 use Rattle.kernel_terms.specs.declared.tables.Tables.{Tables}
 use Rattle.kernel_terms.specs.TableEntries.{no_signal, signal_at, numbers_where, is_interface_of, interface_of}
-use Rattle.tick_log.specs.RunText.{interface_signals}
+use Rattle.tick_log.specs.definitions.RunText.{interface_signals}
 
 one_number : (f : ℕ → SignalInfo) (b : Bool) (n : ℕ) (x : SignalInfo) (numbers : List ℕ) (found : List SignalInfo) → f n ≡ x → map f numbers ≡ found → map f (cond b (n ∷ numbers) numbers) ≡ cond b (x ∷ found) found
 one_number f true n x numbers found e h = cc

@@ -1,7 +1,7 @@
 -- The texts of loops: signals, ticks, domains, joins and channels.
-use Rattle.std.proofs.Common.{◌≡◌, ℕ, zero, suc, ℤ, Bool, true, false, get_or, ◌+◌, ◌-◌, ◌≤◌, ◌<◌, List, [], ◌∷◌, ◌++◌, length, drop, refl, sym, ap, ◌∙◌, subst, arith, cond, Option, None, inl, inr}
+use Rattle.std.proofs.Common.{◌≡◌, ℕ, zero, suc, ℤ, Bool, true, false, get_or, ◌+◌, ◌-◌, ◌≤◌, ◌<◌, List, [], ◌∷◌, ◌++◌, length, map, drop, refl, sym, ap, ◌∙◌, subst, arith, cond, Option, None, inl, inr}
 use Rattle.std.proofs.Math.Seq.{drop-cons}
-use Rattle.std.proofs.lemmas.List.{drop_all, get_or_read, nil_from_length}
+use Rattle.std.proofs.lemmas.List.{drop_all, get_or_read, nil_from_length, length-map}
 use Rattle.std.proofs.lemmas.Bool.{cases_lt}
 use Rattle.std.proofs.lemmas.Grind.{flat_map-append}
 use Rattle.std.specs.List.{filter}
@@ -14,9 +14,11 @@ use Rattle.kernel_terms.specs.Systems.{tables_of}
 use Rattle.kernel_terms.specs.TableEntries.{no_channel, is_interface_of, interface_of, channel_at}
 use Rattle.tick_log.specs.declared.history.JoinRow.{JoinRow}
 use Rattle.tick_log.specs.Puts.{Puts}
-use Rattle.tick_log.specs.Runs.{Entry, LogState, HistoryState, RunState, entry_at, row_at}
-use Rattle.tick_log.specs.RunText.{signal_text, signal_texts, interface_signals, tick_line, tick_lines, domain_line, domain_lines, join_line, join_lines, channel_line, channel_lines, text_of_lines}
-use Rattle.tick_log.specs.Fits.{FitsSystem}
+use Rattle.tick_log.specs.definitions.Runs.{Entry, entry_at, row_at}
+use Rattle.tick_log.specs.declared.run.Run.{Run}
+use Rattle.tick_log.specs.definitions.Containers.{LogState, HistoryState, logged, joined, no_log}
+use Rattle.tick_log.specs.definitions.Holding.{HoldsRun}
+use Rattle.tick_log.specs.definitions.RunText.{signal_text, signal_texts, interface_signals, tick_line, tick_lines, domain_line, domain_lines, join_line, join_lines, channel_line, channel_lines, text_of_lines}
 use Rattle.tick_log.proofs.Texts.{Completes, completes_first, completes_on, completes_last}
 
 no_statuses : (infos : List SignalInfo) → signal_texts infos [] ≡ []
@@ -101,17 +103,17 @@ ticks_more p q r a b c f g h infos entries i all lt t u =
 
 -- the lines of the i-th domain, and the lines after them
 domains_drop : (t : Tables) (logs : List LogState) (i domain : ℕ) (d : LogState) → i < length logs
-    → text_of_lines (domain_lines t domain (drop i logs)) ≡ text_of_lines (domain_line domain (get_or logs i d) ∷ tick_lines (interface_signals t domain) 1 (get_or logs i d).entries) ++ text_of_lines (domain_lines t (domain + 1) (drop (i + 1) logs))
+    → text_of_lines (domain_lines t domain (map logged (drop i logs))) ≡ text_of_lines (domain_line domain (logged (get_or logs i d)) ∷ tick_lines (interface_signals t domain) 1 (get_or logs i d).entries) ++ text_of_lines (domain_lines t (domain + 1) (map logged (drop (i + 1) logs)))
 domains_drop t [] i domain d lt = absurd (omega arith)
-domains_drop t (l ∷ ls) zero domain d lt = flat_map-append (λ line. line ++ 10 ∷ []) (domain_line domain l ∷ tick_lines (interface_signals t domain) 1 l.entries) (domain_lines t (domain + 1) ls)
+domains_drop t (l ∷ ls) zero domain d lt = flat_map-append (λ line. line ++ 10 ∷ []) (domain_line domain (logged l) ∷ tick_lines (interface_signals t domain) 1 l.entries) (domain_lines t (domain + 1) (map logged ls))
 domains_drop t (l ∷ ls) (suc i) domain d lt = let z : suc i + 1 ≡ suc (i + 1) = omega arith in rw z (domains_drop t ls i domain d (omega arith))
 
 pub domains_more : (p q r : Bool) (a b c : Option (List ℕ)) (f g h : ℕ) (t : Tables) (logs : List LogState) (i : ℕ) (log : LogState) (all : List ℕ) → i < length logs → log ≡ get_or logs i log
-    → Completes p q a b f g (text_of_lines (domain_lines t i (drop i logs))) all → Puts q r b c g h (text_of_lines (domain_line i log ∷ tick_lines (interface_signals t i) 1 log.entries)) → Completes p r a c f h (text_of_lines (domain_lines t (i + 1) (drop (i + 1) logs))) all
+    → Completes p q a b f g (text_of_lines (domain_lines t i (map logged (drop i logs)))) all → Puts q r b c g h (text_of_lines (domain_line i (logged log) ∷ tick_lines (interface_signals t i) 1 log.entries)) → Completes p r a c f h (text_of_lines (domain_lines t (i + 1) (map logged (drop (i + 1) logs)))) all
 domains_more p q r a b c f g h t logs i log all lt is s u =
-    let rest = text_of_lines (domain_lines t (i + 1) (drop (i + 1) logs)) in
-    let e = domains_drop t logs i i log lt ∙ ap (λ l. text_of_lines (domain_line i l ∷ tick_lines (interface_signals t i) 1 l.entries) ++ rest) (sym is) in
-    completes_on p q r a b c f g h (text_of_lines (domain_line i log ∷ tick_lines (interface_signals t i) 1 log.entries)) rest all (subst (λ l. Completes p q a b f g l all) e s) u
+    let rest = text_of_lines (domain_lines t (i + 1) (map logged (drop (i + 1) logs))) in
+    let e = domains_drop t logs i i log lt ∙ ap (λ l. text_of_lines (domain_line i (logged l) ∷ tick_lines (interface_signals t i) 1 l.entries) ++ rest) (sym is) in
+    completes_on p q r a b c f g h (text_of_lines (domain_line i (logged log) ∷ tick_lines (interface_signals t i) 1 log.entries)) rest all (subst (λ l. Completes p q a b f g l all) e s) u
 
 -- the line of the i-th join, and the lines after it
 joins_drop : (kind : Kind) (rows : List JoinRow) (i join : ℕ) → i < length rows → text_of_lines (join_lines kind join (drop i rows)) ≡ (join_line kind join (row_at rows i) ++ 10 ∷ []) ++ text_of_lines (join_lines kind (join + 1) (drop (i + 1) rows))
@@ -128,22 +130,26 @@ joins_more p q r a b c f g h kind rows i row all lt is t u =
 
 -- the lines of the i-th channel, and the lines after them
 channels_drop : (t : Tables) (histories : List HistoryState) (i channel : ℕ) (d : HistoryState) → i < length histories
-    → text_of_lines (channel_lines t channel (drop i histories)) ≡ text_of_lines (channel_line (channel_at t channel).name (get_or histories i d) ∷ join_lines (channel_at t channel).kind 1 (get_or histories i d).rows) ++ text_of_lines (channel_lines t (channel + 1) (drop (i + 1) histories))
+    → text_of_lines (channel_lines t channel (map joined (drop i histories))) ≡ text_of_lines (channel_line (channel_at t channel).name (get_or histories i d).rows ∷ join_lines (channel_at t channel).kind 1 (get_or histories i d).rows) ++ text_of_lines (channel_lines t (channel + 1) (map joined (drop (i + 1) histories)))
 channels_drop t [] i channel d lt = absurd (omega arith)
-channels_drop t (x ∷ xs) zero channel d lt = flat_map-append (λ line. line ++ 10 ∷ []) (channel_line (channel_at t channel).name x ∷ join_lines (channel_at t channel).kind 1 x.rows) (channel_lines t (channel + 1) xs)
+channels_drop t (x ∷ xs) zero channel d lt = flat_map-append (λ line. line ++ 10 ∷ []) (channel_line (channel_at t channel).name x.rows ∷ join_lines (channel_at t channel).kind 1 x.rows) (channel_lines t (channel + 1) (map joined xs))
 channels_drop t (x ∷ xs) (suc i) channel d lt = let z : suc i + 1 ≡ suc (i + 1) = omega arith in rw z (channels_drop t xs i channel d (omega arith))
 
 pub channels_more : (p q r : Bool) (a b c : Option (List ℕ)) (f g h : ℕ) (t : Tables) (histories : List HistoryState) (i : ℕ) (history : HistoryState) (info : ChannelInfo) (all : List ℕ) → i < length histories → history ≡ get_or histories i history → i < length t.channels → info ≡ get_or t.channels i info
-    → Completes p q a b f g (text_of_lines (channel_lines t i (drop i histories))) all → Puts q r b c g h (text_of_lines (channel_line info.name history ∷ join_lines info.kind 1 history.rows)) → Completes p r a c f h (text_of_lines (channel_lines t (i + 1) (drop (i + 1) histories))) all
+    → Completes p q a b f g (text_of_lines (channel_lines t i (map joined (drop i histories)))) all → Puts q r b c g h (text_of_lines (channel_line info.name history.rows ∷ join_lines info.kind 1 history.rows)) → Completes p r a c f h (text_of_lines (channel_lines t (i + 1) (map joined (drop (i + 1) histories)))) all
 channels_more p q r a b c f g h t histories i history info all lt is less at s u =
-    let rest = text_of_lines (channel_lines t (i + 1) (drop (i + 1) histories)) in
+    let rest = text_of_lines (channel_lines t (i + 1) (map joined (drop (i + 1) histories))) in
     let same : channel_at t i ≡ info = sym (get_or_read t.channels i info less at no_channel) in
-    let e = channels_drop t histories i i history lt ∙ ap (λ l. text_of_lines (channel_line (channel_at t i).name l ∷ join_lines (channel_at t i).kind 1 l.rows) ++ rest) (sym is) ∙ ap (λ x. text_of_lines (channel_line x.name history ∷ join_lines x.kind 1 history.rows) ++ rest) same in
-    completes_on p q r a b c f g h (text_of_lines (channel_line info.name history ∷ join_lines info.kind 1 history.rows)) rest all (subst (λ l. Completes p q a b f g l all) e s) u
+    let e = channels_drop t histories i i history lt ∙ ap (λ l. text_of_lines (channel_line (channel_at t i).name l.rows ∷ join_lines (channel_at t i).kind 1 l.rows) ++ rest) (sym is) ∙ ap (λ x. text_of_lines (channel_line x.name history.rows ∷ join_lines x.kind 1 history.rows) ++ rest) same in
+    completes_on p q r a b c f g h (text_of_lines (channel_line info.name history.rows ∷ join_lines info.kind 1 history.rows)) rest all (subst (λ l. Completes p q a b f g l all) e s) u
 
 -- the i-th log is over the signals of its domain
-pub log_signals : (system : System) (run : RunState) (i : ℕ) (log : LogState) → FitsSystem system run → i < length run.logs → log ≡ get_or run.logs i log → log.signals ≡ length (interface_of (tables_of system) i)
-log_signals system run i log fits lt at = ap (λ l. l.signals) (get_or_read run.logs i log lt at _) ∙ (fits.logs i lt).signals
+pub log_signals : (system : System) (run : Run) (i : ℕ) (log : LogState) → HoldsRun system run → i < length run.domains.items → log ≡ get_or run.domains.items i log → log.signals ≡ length (interface_of (tables_of system) i)
+log_signals system run i log holds lt at = ap (λ l. l.signals) (get_or_read run.domains.items i log lt at no_log) ∙ holds.signals i lt
+
+-- the i-th history is one of a channel
+pub channel_within : (system : System) (run : Run) (i : ℕ) → HoldsRun system run → i < length run.channels.items → i < length (tables_of system).channels
+channel_within system run i holds lt = omega (arith, lt, length-map run.channels.items joined, holds.fits.channels)
 
 pub ruleset signal_steps = (walks_first, walks_own, walks_other, some_left, walks_last)
 
@@ -153,4 +159,4 @@ pub ruleset domain_steps = (completes_first, completes_last, domains_more, log_s
 
 pub ruleset join_steps = (completes_first, completes_last, joins_more)
 
-pub ruleset channel_steps = (completes_first, completes_last, channels_more)
+pub ruleset channel_steps = (completes_first, completes_last, channels_more, channel_within)

@@ -1,7 +1,7 @@
 -- The statuses of one tick, added one after another.
 use Rattle.std.proofs.Common.{◌≡◌, ℕ, zero, suc, ℤ, Bool, false, cond, get_or, Vec, Global, ◌+◌, ◌≤◌, ◌<◌, List, [], ◌∷◌, ◌++◌, length, drop, refl, sym, ap, ◌∙◌, arith, append_assoc, vec_len, vec_capacity, Option, Some, None}
 use Rattle.std.proofs.lemmas.List.{append-nil, drop_all}
-use Rattle.tick_log.specs.Runs.{statuses_of}
+use Rattle.tick_log.specs.definitions.Runs.{statuses_of}
 
 -- so many statuses were added, and with those that are left they are all of the tick
 pub record Appends (present : List Bool) (values : List ℤ) (first now : Vec (Option ℤ) Global) (i : ℕ) : Type 0 where

@@ -2,7 +2,7 @@
 use Rattle.std.specs.Prelude.{◌≡◌, ℕ, ◌+◌, ◌*◌, ◌^◌, ◌<◌, ◌≤◌, ℤ, Bool, true, List, [], ◌∷◌, take, drop, Option, Vec, vec_len, vec_capacity}
 use Rattle.std.specs.Global.{Global}
 use Rattle.tick_log.specs.declared.history.JoinRow.{JoinRow}
-use Rattle.tick_log.specs.Runs.{Entry}
+use Rattle.tick_log.specs.definitions.Runs.{Entry}
 
 -- the entries of so many signals each
 abbrev pub entries_of : ℕ → List ℕ → List (Option ℤ) → List Entry

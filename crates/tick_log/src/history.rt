@@ -1,5 +1,5 @@
 ghost use Rattle.std.specs.Prelude.{◌≡◌, ◌-◌, ◌≤◌, [], ◌∷◌, ◌++◌, length, IfOk, IsOk};
-ghost use Rattle.tick_log.specs.Runs.{row_at};
+ghost use Rattle.tick_log.specs.definitions.Runs.{row_at};
 
 use crate::log::push_within;
 use java_values::NoMemory;
@@ -24,7 +24,7 @@ pub struct History {
 }
 
 impl Model for History {
-    ghost use Rattle.tick_log.specs.Runs.{HistoryState};
+    ghost use Rattle.tick_log.specs.definitions.Containers.{HistoryState};
     ghost use Rattle.tick_log.specs.Logs.{KeepsRows};
 
     ghost Value = { HistoryState };

@@ -1,5 +1,6 @@
 ghost use Rattle.std.specs.Prelude.{◌≡◌, ◌+◌, ◌-◌, ◌^◌, ◌<◌, ◌≤◌, [], ◌∷◌, ◌++◌, length, max, IfOk, IsOk, IsErr, IsTrue, cond, slice_index_or, Some, None, vec_len, vec_capacity};
-ghost use Rattle.tick_log.specs.Runs.{Going, mark_of, statuses_of, entry_at};
+ghost use Rattle.kernel_terms.specs.Marks.{Going, Ended, is_over};
+ghost use Rattle.tick_log.specs.definitions.Runs.{statuses_of, entry_at};
 
 use java_values::NoMemory;
 use std::alloc::Global;
@@ -18,12 +19,14 @@ pub struct Log {
 }
 
 impl Model for Log {
-    ghost use Rattle.tick_log.specs.Runs.{LogState, mark_of};
+    ghost use Rattle.std.specs.Prelude.{cond};
+    ghost use Rattle.kernel_terms.specs.Marks.{Going, Ended};
+    ghost use Rattle.tick_log.specs.definitions.Containers.{LogState};
     ghost use Rattle.tick_log.specs.Logs.{entries_of, Keeps};
 
     ghost Value = { LogState };
 
-    ghost view = { λ l. record { entries = entries_of l.signals l.stamps.items l.statuses.items; mark = mark_of l.ended; signals = l.signals; room = l.room } };
+    ghost view = { λ l. record { entries = entries_of l.signals l.stamps.items l.statuses.items; mark = cond l.ended Ended Going; signals = l.signals; room = l.room } };
 
     ghost invariant = { λ l. Keeps l.stamps l.statuses l.signals l.room l.ended };
 }
@@ -70,7 +73,7 @@ impl Log {
         requires values { length values.now ≡ self.old.signals }
         ensures { self.new ≡ record {
           entries = self.old.entries ++ record { stamp = stamp; statuses = statuses_of present.now values.now } ∷ [];
-          mark = mark_of ended;
+          mark = cond ended Ended Going;
           signals = self.old.signals;
           room = self.old.room - 1;
         } }
@@ -90,7 +93,7 @@ impl Log {
 
     /// Whether the domain ended in its last tick.
     pub fn ended(&self) -> bool
-        ensures mark { mark_of result ≡ self.now.mark }
+        ensures mark { result ≡ is_over self.now.mark }
         ensures entry { IsTrue result → 1 ≤ length self.now.entries }
     {
         self.ended

@@ -1,8 +1,9 @@
 ghost use Rattle.std.specs.Prelude.{◌≡◌, true, [], ◌∷◌, length, IfOk, codes};
 ghost use Rattle.kernel_terms.specs.Systems.{tables_of, domains_of};
 ghost use Rattle.kernel_terms.specs.WellFormed.{is_well_formed};
-ghost use Rattle.kernel_terms.specs.TableEntries.{channel_at};
-ghost use Rattle.tick_log.specs.Fits.{IsLog, IsHistory};
+ghost use Rattle.kernel_terms.specs.TableEntries.{channel_at, interface_of};
+ghost use Rattle.tick_log.specs.definitions.Containers.{logged};
+ghost use Rattle.tick_log.specs.definitions.Fits.{IsLog, IsHistory};
 
 use crate::{History, JoinRow, Log, Run, print};
 use java_values::{Kind, NoMemory, Text};
@@ -197,7 +198,8 @@ fn print_one(
 ) -> Result<Result<(), WriteError>, NoMemory>
     requires domains { length (domains_of system.now) ≡ 1 }
     requires channels { (tables_of system.now).channels ≡ [] }
-    requires log { IsLog (tables_of system.now) 0 log }
+    requires log { IsLog (tables_of system.now) 0 (logged log) }
+    requires signals { log.signals ≡ length (interface_of (tables_of system.now) 0) }
 {
     let run = Run {
         domains: vec![in alloc; log]?,
@@ -217,9 +219,11 @@ fn print_two(
 ) -> Result<Result<(), WriteError>, NoMemory>
     requires domains { length (domains_of system.now) ≡ 2 }
     requires channels { length (tables_of system.now).channels ≡ 1 }
-    requires first { IsLog (tables_of system.now) 0 first }
-    requires second { IsLog (tables_of system.now) 1 second }
-    requires history { IsHistory (channel_at (tables_of system.now) 0).kind history }
+    requires first { IsLog (tables_of system.now) 0 (logged first) }
+    requires second { IsLog (tables_of system.now) 1 (logged second) }
+    requires first_signals { first.signals ≡ length (interface_of (tables_of system.now) 0) }
+    requires second_signals { second.signals ≡ length (interface_of (tables_of system.now) 1) }
+    requires history { IsHistory (channel_at (tables_of system.now) 0).kind history.rows }
 {
     let run = Run {
         domains: vec![in alloc; first, second]?,

@@ -9,9 +9,11 @@ ghost use Rattle.kernel_terms.specs.TableEntries.{is_local, is_interface_of, int
 ghost use Rattle.sj_io.specs.Causes.{Rose};
 ghost use Rattle.sj_io.specs.Sinks.{TakesMore, TakesFront};
 ghost use Rattle.tick_log.specs.Puts.{Puts};
-ghost use Rattle.tick_log.specs.Runs.{mark_of, entry_at};
-ghost use Rattle.tick_log.specs.RunText.{run_state, truth_word, value_text, value_part, signal_text, signal_texts, interface_signals, tick_line, tick_lines, mark_word, domain_line, domain_lines, join_line, join_lines, channel_line, channel_lines, text_of_lines, run_text};
-ghost use Rattle.tick_log.specs.Fits.{FitsSystem};
+ghost use Rattle.kernel_terms.specs.Marks.{Mark, is_over};
+ghost use Rattle.tick_log.specs.definitions.Runs.{entry_at};
+ghost use Rattle.tick_log.specs.definitions.Containers.{logged};
+ghost use Rattle.tick_log.specs.definitions.Holding.{run_state, HoldsRun};
+ghost use Rattle.tick_log.specs.definitions.RunText.{truth_word, value_text, value_part, signal_text, signal_texts, interface_signals, tick_line, tick_lines, mark_word, domain_line, domain_lines, join_line, join_lines, channel_line, channel_lines, text_of_lines, run_text};
 
 use crate::history::{History, JoinRow};
 use crate::log::Log;
@@ -28,7 +30,7 @@ use sj_io::{Sink, WriteError, write_all};
 /// receiver had made, and its stamp. `Fault` says that the sink failed; it has then taken a front of
 /// the text.
 pub fn print<K: Sink>(run: &Run, system: &System, out: &mut K) -> Result<(), WriteError>
-    requires { FitsSystem system.now (run_state run.now) }
+    requires { HoldsRun system.now run.now }
     ensures ok { OnOk result (TakesMore (K.taken out.old) (K.taken out.new) (run_text (tables_of system.now) (run_state run.now))) }
     ensures front { OnErr result (TakesFront (K.taken out.old) (K.taken out.new) (run_text (tables_of system.now) (run_state run.now))) }
     ensures cause { OnErr result (Rose (K.faults out.old) (K.faults out.new)) }
@@ -42,7 +44,7 @@ pub fn print<K: Sink>(run: &Run, system: &System, out: &mut K) -> Result<(), Wri
 }
 
 fn put_run<K: Sink>(out: &mut K, run: &Run, system: &System) -> bool
-    requires { FitsSystem system.now (run_state run.now) }
+    requires { HoldsRun system.now run.now }
     ensures { Puts true result (K.taken out.old) (K.taken out.new) (K.faults out.old) (K.faults out.new) (run_text (tables_of system.now) (run_state run.now)) }
 {
     let good = put_domains(out, true, run, system);
@@ -51,7 +53,7 @@ fn put_run<K: Sink>(out: &mut K, run: &Run, system: &System) -> bool
 
 #[tactic(auto, using(crate::proofs::Lines::domain_steps))]
 fn put_domains<K: Sink>(out: &mut K, ok: bool, run: &Run, system: &System) -> bool
-    requires { FitsSystem system.now (run_state run.now) }
+    requires { HoldsRun system.now run.now }
     ensures { Puts ok result (K.taken out.old) (K.taken out.new) (K.faults out.old) (K.faults out.new) (text_of_lines (domain_lines (tables_of system.now) 0 (run_state run.now).logs)) }
 {
     let mut good = ok;
@@ -63,7 +65,7 @@ fn put_domains<K: Sink>(out: &mut K, ok: bool, run: &Run, system: &System) -> bo
 
 fn put_domain<K: Sink>(out: &mut K, ok: bool, tables: &Tables, domain: u64, log: &Log) -> bool
     requires { log.now.signals ≡ length (interface_of tables.now domain) }
-    ensures { Puts ok result (K.taken out.old) (K.taken out.new) (K.faults out.old) (K.faults out.new) (text_of_lines (domain_line domain log.now ∷ tick_lines (interface_signals tables.now domain) 1 log.now.entries)) }
+    ensures { Puts ok result (K.taken out.old) (K.taken out.new) (K.faults out.old) (K.faults out.new) (text_of_lines (domain_line domain (logged log.now) ∷ tick_lines (interface_signals tables.now domain) 1 log.now.entries)) }
 {
     let headed = put_head(out, ok, domain, log);
     let signals = from_first(tables.signals.as_slice(), domain);
@@ -101,7 +103,7 @@ fn is_local_sort(sort: Sort) -> bool
 
 // `domain D ticks N` and how the domain stands.
 fn put_head<K: Sink>(out: &mut K, ok: bool, domain: u64, log: &Log) -> bool
-    ensures { Puts ok result (K.taken out.old) (K.taken out.new) (K.faults out.old) (K.faults out.new) (domain_line domain log.now ++ 10 ∷ []) }
+    ensures { Puts ok result (K.taken out.old) (K.taken out.new) (K.faults out.old) (K.faults out.new) (domain_line domain (logged log.now) ++ 10 ∷ []) }
 {
     let begun = put(out, ok, b"domain ");
     let numbered = put_number(out, begun, domain);
@@ -112,7 +114,7 @@ fn put_head<K: Sink>(out: &mut K, ok: bool, domain: u64, log: &Log) -> bool
 }
 
 fn put_word<K: Sink>(out: &mut K, ok: bool, ended: bool) -> bool
-    ensures { Puts ok result (K.taken out.old) (K.taken out.new) (K.faults out.old) (K.faults out.new) (mark_word (mark_of ended)) }
+    ensures { (mark : Mark) → ended ≡ is_over mark → Puts ok result (K.taken out.old) (K.taken out.new) (K.faults out.old) (K.faults out.new) (mark_word mark) }
 {
     if ended {
         put(out, ok, b" ended")
@@ -243,7 +245,7 @@ fn put_truth<K: Sink>(out: &mut K, ok: bool, truth: bool) -> bool
 
 #[tactic(auto, using(crate::proofs::Lines::channel_steps))]
 fn put_channels<K: Sink>(out: &mut K, ok: bool, run: &Run, system: &System) -> bool
-    requires { FitsSystem system.now (run_state run.now) }
+    requires { HoldsRun system.now run.now }
     ensures { Puts ok result (K.taken out.old) (K.taken out.new) (K.faults out.old) (K.faults out.new) (text_of_lines (channel_lines (tables_of system.now) 0 (run_state run.now).histories)) }
 {
     let channels = system.tables().channels.as_slice();
@@ -255,7 +257,7 @@ fn put_channels<K: Sink>(out: &mut K, ok: bool, run: &Run, system: &System) -> b
 }
 
 fn put_channel<K: Sink>(out: &mut K, ok: bool, channel: &ChannelInfo, history: &History) -> bool
-    ensures { Puts ok result (K.taken out.old) (K.taken out.new) (K.faults out.old) (K.faults out.new) (text_of_lines (channel_line channel.now.name history.now ∷ join_lines channel.now.kind 1 history.now.rows)) }
+    ensures { Puts ok result (K.taken out.old) (K.taken out.new) (K.faults out.old) (K.faults out.new) (text_of_lines (channel_line channel.now.name history.now.rows ∷ join_lines channel.now.kind 1 history.now.rows)) }
 {
     let headed = put_channel_head(out, ok, channel, history);
     put_joins(out, headed, channel.kind, history)
@@ -268,7 +270,7 @@ fn put_channel_head<K: Sink>(
     channel: &ChannelInfo,
     history: &History,
 ) -> bool
-    ensures { Puts ok result (K.taken out.old) (K.taken out.new) (K.faults out.old) (K.faults out.new) (channel_line channel.now.name history.now ++ 10 ∷ []) }
+    ensures { Puts ok result (K.taken out.old) (K.taken out.new) (K.faults out.old) (K.faults out.new) (channel_line channel.now.name history.now.rows ++ 10 ∷ []) }
 {
     let begun = put(out, ok, b"channel ");
     let named = put(out, begun, channel.name.bytes());

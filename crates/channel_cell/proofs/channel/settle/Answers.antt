@@ -1,5 +1,5 @@
 use Rattle.std.proofs.Common.{subst}
-use Rattle.channel_cell.specs.Channels.{EndState, Settles}
+use Rattle.channel_cell.specs.definitions.Channels.{EndState, Settles}
 use Rattle.channel_cell.proofs.Settling.{settles}
 use Rattle.channel_cell.proofs.channel.settle.Goals as goal
 

@@ -2,7 +2,7 @@ use Rattle.std.proofs.Common.{◌∙◌, sym, ap, length, subst}
 use Rattle.std.specs.List.{filter}
 use Rattle.kernel_terms.specs.TableEntries.{is_interface_of}
 use Rattle.tick_log.specs.Puts.{Puts}
-use Rattle.tick_log.specs.RunText.{text_of_lines, tick_lines}
+use Rattle.tick_log.specs.definitions.RunText.{text_of_lines, tick_lines}
 use Rattle.tick_log.proofs.Texts.{puts_both}
 use Rattle.tick_log.proofs.Interfaces.{interface_found, interface_count}
 use Rattle.tick_log.proofs.text.put_domain.Goals as goal

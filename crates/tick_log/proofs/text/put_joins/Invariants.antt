@@ -1,5 +1,5 @@
 use Rattle.std.proofs.Common.{◌+◌, drop}
-use Rattle.tick_log.specs.RunText.{text_of_lines, join_lines}
+use Rattle.tick_log.specs.definitions.RunText.{text_of_lines, join_lines}
 use Rattle.tick_log.proofs.Texts.{Completes}
 use Rattle.tick_log.proofs.text.put_joins.Given as goal
 

@@ -1,5 +1,5 @@
 use Rattle.std.proofs.Common.{◌-◌, length}
-use Rattle.tick_log.specs.Runs.{entry_at}
+use Rattle.tick_log.specs.definitions.Runs.{entry_at}
 use Rattle.tick_log.proofs.Lines.{Walks}
 use Rattle.tick_log.proofs.text.put_signals.Given as goal
 

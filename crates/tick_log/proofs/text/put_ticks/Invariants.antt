@@ -1,7 +1,7 @@
 use Rattle.std.proofs.Common.{◌+◌, drop}
 use Rattle.std.specs.List.{filter}
 use Rattle.kernel_terms.specs.TableEntries.{is_interface_of}
-use Rattle.tick_log.specs.RunText.{text_of_lines, tick_lines}
+use Rattle.tick_log.specs.definitions.RunText.{text_of_lines, tick_lines}
 use Rattle.tick_log.proofs.Texts.{Completes}
 use Rattle.tick_log.proofs.text.put_ticks.Given as goal
 

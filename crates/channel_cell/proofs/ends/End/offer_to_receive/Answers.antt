@@ -1,7 +1,7 @@
 use Rattle.std.proofs.Common.{◌+◌, ◌*◌, ◌≤◌, arith, refl, sym, ap, ◌∙◌, subst}
 use Rattle.std.specs.Prelude.{pos}
 use Rattle.cell_core.specs.declared.moves.CellMove.TheVariants.{Offer}
-use Rattle.channel_cell.specs.Channels.{EndState}
+use Rattle.channel_cell.specs.definitions.Channels.{EndState}
 use Rattle.channel_cell.specs.Rule.{knows_in}
 use Rattle.channel_cell.specs.Calls.{moves_in, kind_in, tally_in, Done}
 use Rattle.channel_cell.proofs.Nexts.{small}

@@ -2,7 +2,7 @@ use Rattle.std.proofs.Common.{◌+◌, ◌*◌, ◌≤◌, arith, refl, sym, ap,
 use Rattle.std.proofs.Common.{w64, to_z, of_z}
 use Rattle.std.proofs.lemmas.Int.{to_z-of_z}
 use Rattle.cell_core.specs.declared.moves.CellMove.TheVariants.{Offer}
-use Rattle.channel_cell.specs.Channels.{EndState}
+use Rattle.channel_cell.specs.definitions.Channels.{EndState}
 use Rattle.channel_cell.specs.Rule.{knows_in}
 use Rattle.channel_cell.specs.Calls.{moves_in, kind_in, tally_in, Done}
 use Rattle.channel_cell.proofs.Nexts.{small}

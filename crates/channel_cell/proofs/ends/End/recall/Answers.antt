@@ -1,6 +1,6 @@
 use Rattle.std.proofs.Common.{◌+◌, ◌≤◌, arith, refl, sym, ap, ◌∙◌, subst}
 use Rattle.cell_core.specs.declared.moves.CellMove.TheVariants.{Recall}
-use Rattle.channel_cell.specs.Channels.{EndState}
+use Rattle.channel_cell.specs.definitions.Channels.{EndState}
 use Rattle.channel_cell.specs.Rule.{knows_in}
 use Rattle.channel_cell.specs.Calls.{moves_in, tally_in, Done}
 use Rattle.channel_cell.proofs.Nexts.{small}

@@ -1,5 +1,7 @@
-use Rattle.std.proofs.Common.{◌-◌, ap, arith}
-use Rattle.tick_log.specs.Runs.{LogState, mark_of, statuses_of}
+use Rattle.std.proofs.Common.{◌-◌, ap, arith, cond}
+use Rattle.kernel_terms.specs.Marks.{Going, Ended}
+use Rattle.tick_log.specs.definitions.Runs.{statuses_of}
+use Rattle.tick_log.specs.definitions.Containers.{LogState}
 use Rattle.tick_log.proofs.Entries.{keeps_more, kept_push, same_state}
 use Rattle.tick_log.proofs.Statuses.{statuses_length}
 use Rattle.tick_log.proofs.log.Log.push.Goals as goal
@@ -17,4 +19,4 @@ returns c =
     let room = ap (λ (v : LogState). v.room) c.self.view_is in
     let many = statuses_length c.args.present.now c.args.values.now (omega arith) in
     let pushed = kept_push c.self.inside.signals c.args.stamp c.self.inside.stamps c.push_within.new.items c.self.inside.statuses c.append.new.statuses (statuses_of c.args.present.now c.args.values.now) c.args.self.now.entries entries c.self.invariant.all (omega (arith, many, signals)) c.push_within.ensures.items c.append.ensures.items in
-    same_state (mark_of c.args.ended) pushed signals (ap (λ n. n - 1) room)
+    same_state (cond c.args.ended Ended Going) pushed signals (ap (λ n. n - 1) room)

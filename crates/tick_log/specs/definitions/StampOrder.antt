@@ -1,6 +1,6 @@
 -- The ticks and joins of a run, in stamp order.
 use Rattle.std.specs.Prelude.{◌≡◌, ℕ, ◌<◌, ◌⊎◌, ◌↔◌, List, [], ◌∷◌, length}
-use Rattle.tick_log.specs.Runs.{RunState, tick_count, join_count, tick_of, join_of}
+use Rattle.tick_log.specs.definitions.Runs.{RunState, tick_count, join_count, tick_of, join_of}
 
 -- a tick, by its domain and the number of ticks before it; a join, by its channel and the number of joins
 -- before it

@@ -1,15 +1,16 @@
 -- When a run is one of a system.
-use Rattle.std.specs.Prelude.{◌≡◌, ℕ, ◌<◌, ◌≤◌, ◌^◌, ℤ, pos, List, [], ◌∷◌, length, All, Option, Some, None}
+use Rattle.std.specs.Prelude.{◌≡◌, ℕ, ◌<◌, ◌≤◌, ◌^◌, ℤ, pos, true, List, [], ◌∷◌, length, All, Option, Some, None}
 use Rattle.java_values.specs.declared.kind.Kind.{Kind}
 use Rattle.java_values.specs.Kinds.{IsInRange}
 use Rattle.kernel_terms.specs.declared.system.System.{System}
 use Rattle.kernel_terms.specs.declared.tables.SignalInfo.{SignalInfo}
 use Rattle.kernel_terms.specs.declared.tables.Tables.{Tables}
 use Rattle.kernel_terms.specs.Systems.{tables_of, domains_of}
-use Rattle.kernel_terms.specs.TableEntries.{channel_at, interface_of}
+use Rattle.kernel_terms.specs.Marks.{is_over}
+use Rattle.kernel_terms.specs.TableEntries.{channel_at}
 use Rattle.tick_log.specs.declared.history.JoinRow.{JoinRow}
-use Rattle.tick_log.specs.Runs.{Entry, LogState, HistoryState, RunState, log_of, history_of}
-use Rattle.tick_log.specs.RunText.{interface_signals}
+use Rattle.tick_log.specs.definitions.Runs.{Entry, DomainLog, RunState, log_of, history_of}
+use Rattle.tick_log.specs.definitions.RunText.{interface_signals}
 
 -- the most ticks of a domain and joins of a channel
 abbrev pub most_ticks : ℕ
@@ -38,11 +39,11 @@ pub record IsEntry (infos : List SignalInfo) (e : Entry) : Type 0 where
   pub stamp : IsStamp e.stamp
   pub statuses : AreStatuses infos e.statuses
 
--- a log of the domain of this number
-pub record IsLog (t : Tables) (domain : ℕ) (log : LogState) : Type 0 where
-  pub signals : log.signals ≡ length (interface_of t domain)
+-- a log of the domain of this number; a domain that is over has made a tick
+pub record IsLog (t : Tables) (domain : ℕ) (log : DomainLog) : Type 0 where
   pub ticks : length log.entries ≤ most_ticks
   pub entries : All (IsEntry (interface_signals t domain)) log.entries
+  pub mark : is_over log.mark ≡ true → 1 ≤ length log.entries
 
 pub record IsRow (kind : Kind) (row : JoinRow) : Type 0 where
   pub value : IsInRange kind row.value
@@ -51,11 +52,11 @@ pub record IsRow (kind : Kind) (row : JoinRow) : Type 0 where
   pub stamp : IsStamp row.stamp
 
 -- a history of a channel of this kind
-pub record IsHistory (kind : Kind) (history : HistoryState) : Type 0 where
-  pub joins : length history.rows ≤ most_ticks
-  pub rows : All (IsRow kind) history.rows
+pub record IsHistory (kind : Kind) (rows : List JoinRow) : Type 0 where
+  pub joins : length rows ≤ most_ticks
+  pub each : All (IsRow kind) rows
 
--- the run has one log per domain, over that domain's interface signals, and one history per channel
+-- the run has one log per domain and one history per channel
 pub record FitsSystem (system : System) (run : RunState) : Type 0 where
   pub domains : length run.logs ≡ length (domains_of system)
   pub channels : length run.histories ≡ length (tables_of system).channels

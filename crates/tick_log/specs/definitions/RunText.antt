@@ -8,12 +8,8 @@ use Rattle.kernel_terms.specs.declared.tables.SignalInfo.{SignalInfo}
 use Rattle.kernel_terms.specs.declared.tables.Tables.{Tables}
 use Rattle.kernel_terms.specs.TableEntries.{signal_at, channel_at, interface_of}
 use Rattle.tick_log.specs.declared.history.JoinRow.{JoinRow}
-use Rattle.tick_log.specs.declared.run.Run.{Run}
-use Rattle.tick_log.specs.Runs.{Entry, Mark, Going, Ended, LogState, HistoryState, RunState}
-
--- the logs and histories of a run
-abbrev pub run_state : Run → RunState
-run_state run = record { logs = run.domains.items; histories = run.channels.items }
+use Rattle.kernel_terms.specs.Marks.{Mark, Going, Ended}
+use Rattle.tick_log.specs.definitions.Runs.{Entry, DomainLog, RunState}
 
 abbrev pub truth_word : Bool → List ℕ
 truth_word true = codes "true"
@@ -61,11 +57,11 @@ mark_word Ended = codes " ended"
 mark_word Going = codes " paused"
 
 -- `domain D ticks N` and how the domain stands
-abbrev pub domain_line : ℕ → LogState → List ℕ
+abbrev pub domain_line : ℕ → DomainLog → List ℕ
 domain_line domain log = codes "domain " ++ decimal domain ++ codes " ticks " ++ decimal (length log.entries) ++ mark_word log.mark
 
 -- the lines of each domain, whose numbers begin here
-abbrev pub domain_lines : Tables → ℕ → List LogState → List (List ℕ)
+abbrev pub domain_lines : Tables → ℕ → List DomainLog → List (List ℕ)
 domain_lines t domain [] = []
 domain_lines t domain (log ∷ logs) =
     domain_line domain log ∷ (tick_lines (interface_signals t domain) 1 log.entries ++ domain_lines t (domain + 1) logs)
@@ -81,14 +77,14 @@ join_lines kind join [] = []
 join_lines kind join (row ∷ rows) = join_line kind join row ∷ join_lines kind (join + 1) rows
 
 -- `channel NAME K`
-abbrev pub channel_line : List ℕ → HistoryState → List ℕ
-channel_line name history = codes "channel " ++ name ++ codes " " ++ decimal (length history.rows)
+abbrev pub channel_line : List ℕ → List JoinRow → List ℕ
+channel_line name rows = codes "channel " ++ name ++ codes " " ++ decimal (length rows)
 
 -- the lines of each channel, whose numbers begin here
-abbrev pub channel_lines : Tables → ℕ → List HistoryState → List (List ℕ)
+abbrev pub channel_lines : Tables → ℕ → List (List JoinRow) → List (List ℕ)
 channel_lines t channel [] = []
-channel_lines t channel (history ∷ histories) =
-    channel_line (channel_at t channel).name history ∷ (join_lines (channel_at t channel).kind 1 history.rows ++ channel_lines t (channel + 1) histories)
+channel_lines t channel (rows ∷ histories) =
+    channel_line (channel_at t channel).name rows ∷ (join_lines (channel_at t channel).kind 1 rows ++ channel_lines t (channel + 1) histories)
 
 -- each line ends with byte 10
 abbrev pub text_of_lines : List (List ℕ) → List ℕ
