@@ -1,4 +1,4 @@
-use Rattle.domain_core.proofs.Rendezvous.{s5, rendezvous-scheduled, rendezvous-whole}
+use Rattle.domain_core.proofs.lemmas.runs.Rendezvous.{s5, rendezvous-scheduled, rendezvous-whole}
 use Rattle.domain_core.proofs.rows.one_rendezvous.Goals as goal
 
 pub returns : goal.returns

@@ -1,5 +1,0 @@
-use Rattle.domain_core.proofs.JoinListLemmas.{Grows}
-use Rattle.domain_core.proofs.join_lists.grow.Given as goal
-
-abbrev pub invariant-loop-at : goal.invariant-loop-at
-invariant-loop-at l = Grows l.room l.at l.initial.lists.items l.lists.items

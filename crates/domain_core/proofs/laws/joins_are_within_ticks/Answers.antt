@@ -1,5 +1,0 @@
-use Rattle.domain_core.proofs.JoinsOfTicks.{joins_within_ticks, run_joins_within_ticks}
-use Rattle.domain_core.proofs.laws.joins_are_within_ticks.Goals as goal
-
-pub returns : goal.returns
-returns c = record { steps = joins_within_ticks; runs = run_joins_within_ticks }

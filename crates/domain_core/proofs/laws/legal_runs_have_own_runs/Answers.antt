@@ -1,5 +1,0 @@
-use Rattle.domain_core.proofs.Converse.{legal_has_own_runs}
-use Rattle.domain_core.proofs.laws.legal_runs_have_own_runs.Goals as goal
-
-pub returns : goal.returns
-returns c = legal_has_own_runs

@@ -1,5 +1,0 @@
-use Rattle.domain_core.proofs.MovesGrow.{moves_grown, joins_grown, moves_closed, joins_closed}
-use Rattle.domain_core.proofs.laws.moves_and_joins_grow.Goals as goal
-
-pub returns : goal.returns
-returns c = record { moves_grown = moves_grown; joins_grown = joins_grown; moves_closed = moves_closed; joins_closed = joins_closed }

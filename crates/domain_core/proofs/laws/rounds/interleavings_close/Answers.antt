@@ -1,0 +1,5 @@
+use Rattle.domain_core.proofs.lemmas.rounds.Closing.{interleavings_close}
+use Rattle.domain_core.proofs.laws.rounds.interleavings_close.Goals as goal
+
+pub returns : goal.returns
+returns c = interleavings_close

@@ -1,0 +1,5 @@
+use Rattle.domain_core.proofs.lemmas.rounds.Interleaved.{interleaving_fits}
+use Rattle.domain_core.proofs.laws.rounds.interleavings_fit.Goals as goal
+
+pub returns : goal.returns
+returns c = interleaving_fits

@@ -1,5 +1,0 @@
-use Rattle.domain_core.proofs.RoundsGrow.{rounds_begin, rounds_more, rounds_close}
-use Rattle.domain_core.proofs.laws.rounds_grow.Goals as goal
-
-pub returns : goal.returns
-returns c = record { begun = rounds_begin; grown = rounds_more; closed = rounds_close }

@@ -1,0 +1,5 @@
+use Rattle.domain_core.proofs.lemmas.runs.Cuts.{own_runs_are_legal}
+use Rattle.domain_core.proofs.laws.runs.own_runs_are_legal.Goals as goal
+
+pub returns : goal.returns
+returns c = own_runs_are_legal

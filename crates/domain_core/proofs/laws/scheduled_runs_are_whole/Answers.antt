@@ -1,5 +1,0 @@
-use Rattle.domain_core.proofs.Turns.{scheduled_runs_are_whole}
-use Rattle.domain_core.proofs.laws.scheduled_runs_are_whole.Goals as goal
-
-pub returns : goal.returns
-returns c = scheduled_runs_are_whole

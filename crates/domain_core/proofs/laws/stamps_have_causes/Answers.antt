@@ -1,5 +1,0 @@
-use Rattle.domain_core.proofs.StampBound.{has_cause}
-use Rattle.domain_core.proofs.laws.stamps_have_causes.Goals as goal
-
-pub returns : goal.returns
-returns c = λ setup r e y f s h. has_cause setup r y f s e h

@@ -1,5 +1,0 @@
-use Rattle.domain_core.proofs.WellFormedSystems.{system_joins, few_domains}
-use Rattle.domain_core.proofs.laws.systems_join_domains.Goals as goal
-
-pub returns : goal.returns
-returns c = record { joined = system_joins; few = few_domains }

@@ -1,0 +1,4 @@
+pub mod equations
+pub mod rounds
+pub mod runs
+pub mod step

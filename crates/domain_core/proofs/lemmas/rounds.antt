@@ -1,0 +1,12 @@
+pub mod CellJoins
+pub mod CellMoves
+pub mod Closing
+pub mod FittingRounds
+pub mod Interleaved
+pub mod MovesGrow
+pub mod Rest
+pub mod RoundFacts
+pub mod RoundsGrow
+pub mod RoundsRun
+pub mod RoundsStamps
+pub mod Standing

@@ -1,5 +1,0 @@
-use Rattle.domain_core.proofs.CompileLists.{EndsSoFar}
-use Rattle.domain_core.proofs.opening.list_ends.Given as goal
-
-abbrev pub invariant-loop-at : goal.invariant-loop-at
-invariant-loop-at l = EndsSoFar l.domain l.channels l.at l.ends.items

@@ -1,0 +1,4 @@
+pub mod Rows
+pub mod rounds
+pub mod runs
+pub mod step

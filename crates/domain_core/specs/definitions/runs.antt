@@ -1,0 +1,6 @@
+pub mod LegalRuns
+pub mod OwnRuns
+pub mod Scheduled
+pub mod StampBound
+pub mod Stamps
+pub mod Systems

@@ -1,0 +1,9 @@
+pub mod BuiltCodes
+pub mod BuiltForms
+pub mod BuiltLimits
+pub mod BuiltRegisters
+pub mod Circuit
+pub mod CircuitLists
+pub mod Codes
+pub mod Places
+pub mod SendsFit

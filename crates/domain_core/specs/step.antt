@@ -1,0 +1,5 @@
+pub mod Answers
+pub mod DomainKeeps
+pub mod EndPlaces
+pub mod JoinLists
+pub mod StepParts

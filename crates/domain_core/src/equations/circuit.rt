@@ -1,0 +1,109 @@
+// The code of a starting or a resuming tick, the wires that tell it, and one step of it.
+
+ghost use Rattle.std.specs.Prelude.{◌≡◌, ◌+◌, ◌^◌, ◌<◌, ◌≤◌, ◌++◌, ℕ, length, take, IfOk, slice_index};
+ghost use Rattle.tick_code.specs.Formulas.{IsOrdered, FitsFrame};
+ghost use Rattle.domain_core.specs.equations.Circuit.{Part};
+ghost use Rattle.domain_core.specs.equations.BuiltCodes.{Below, Merges, Shows, Steps, CanStep, head};
+
+use crate::equations::builder::Parts;
+use java_values::NoMemory;
+use std::alloc::Global;
+use tick_code::{Code, Equation, Formula};
+
+// Adds equations that give, for each number below the count, a wire that is on where the wire of
+// some pair of this number is.
+#[tactic(auto, using(crate::proofs::lemmas::equations::CircuitMerging::merge_steps))]
+fn merge(
+    alloc: Global,
+    equations: &mut Vec<Equation>,
+    pairs: &[(u32, u32)],
+    count: u32,
+) -> Result<Vec<u32>, NoMemory>
+    requires some { 0 < length equations.old.items }
+    requires below { Below count (length equations.old.items) pairs.now }
+    requires room { length equations.old.items + length pairs.now < 2 ^ 32 }
+    ensures { IfOk result (λ wires. Merges equations.old.items equations.new.items wires.items pairs.now count) }
+{
+    let mut wires = vec![in alloc; 0u32; count as usize]?;
+    for pair in pairs {
+        let number = pair.0 as usize;
+        let wire = equations.len() as u32;
+        equations.push(Equation {
+            wire,
+            formula: Formula::Or(wires[number], pair.1),
+        })?;
+        wires[number] = wire;
+    }
+    Ok(wires)
+}
+
+/// The code of a tick, and the wires that tell which signals are present, the next registers, and
+/// whether the domain ends.
+#[derive(Drop)]
+pub struct Built {
+    code: Code,
+    present: Vec<u32>,
+    next: Vec<u32>,
+    end: u32,
+}
+
+/// The code of these parts, whose end the wire `end` tells.
+pub fn finish(
+    alloc: Global,
+    parts: Parts,
+    end: u32,
+    signals: u32,
+    count: u32,
+) -> Result<Built, NoMemory>
+    requires some { 0 < length parts.equations.items }
+    requires end { end < length parts.equations.items }
+    requires emits { Below signals (length parts.equations.items) parts.emits.items }
+    requires sets { Below count (length parts.equations.items) parts.sets.items }
+    requires fits { FitsFrame count parts.equations.items }
+    requires ordered { IsOrdered 0 parts.equations.items }
+    requires room { length parts.equations.items + length parts.emits.items + length parts.sets.items < 2 ^ 32 }
+    ensures { IfOk result (λ built. (part : Part) → head ++ part.equations ≡ parts.equations.items → part.done ≡ end → part.sets ≡ parts.sets.items → part.emits ≡ parts.emits.items → Shows built.code built.present.items built.next.items built.end head part signals count) }
+{
+    let Parts {
+        mut equations,
+        sets,
+        emits,
+    } = parts;
+    let present = merge(alloc, &mut equations, &emits, signals)?;
+    let next = merge(alloc, &mut equations, &sets, count)?;
+    match Code::new(equations) {
+        Some(code) => Ok(Built {
+            code,
+            present,
+            next,
+            end,
+        }),
+        None => unreachable!(),
+    }
+}
+
+/// Solves the equations over the registers, and reads off which signals are present, what the
+/// statement's registers are next, and whether the domain ends. Registers past those stay.
+pub fn step(built: &Built, registers: &mut [i64], wires: &mut [i64], present: &mut [bool]) -> bool
+    requires can { CanStep built.now (length registers.old) (length present.old) }
+    requires wires { length wires.old ≡ length built.now.code }
+    ensures { Steps built.now.code built.now.present.items built.now.next.items built.now.end registers.old wires.new present.new registers.new result }
+{
+    built.code.run(registers, wires);
+    for (i, at) in built.present.iter().enumerate() {
+        present[i] = wires[*at as usize] != 0;
+    }
+    for (i, at) in built.next.iter().enumerate() {
+        registers[i] = wires[*at as usize];
+    }
+    wires[built.end as usize] != 0
+}
+
+impl Built {
+    /// How many wires the code gives.
+    pub fn wire_count(&self) -> usize
+        ensures { result ≡ length self.now.code }
+    {
+        self.code.len()
+    }
+}
