@@ -4,21 +4,23 @@ use Rattle.std.proofs.lemmas.Bool.{cases_eq, cases_lt}
 use Rattle.kernel_terms.specs.declared.system.System.{System}
 use Rattle.kernel_terms.specs.Systems.{tables_of}
 use Rattle.kernel_terms.specs.TableEntries.{channel_at}
-use Rattle.kernel_rules.specs.LegalTick.{DomainState}
-use Rattle.tick_log.specs.Runs.{Entry}
+use Rattle.kernel_rules.specs.definitions.LegalTick.{DomainState}
+use Rattle.tick_log.specs.definitions.Runs.{Entry}
 use Rattle.cell_core.specs.declared.moves.Side.{Side}
 use Rattle.cell_core.specs.declared.moves.Side.TheVariants.{Sender, Receiver}
 use Rattle.cell_core.specs.declared.moves.Joined.{Joined}
 use Rattle.cell_core.specs.Cells.{other, standing_at}
-use Rattle.domain_core.specs.EndCalls.{end_at}
-use Rattle.domain_core.specs.EndPlaces.{raised, raised_by}
-use Rattle.domain_core.specs.Domains.{DomainView, ends_of}
-use Rattle.domain_core.specs.Steps.{Waits, WaitsAs, IsAsk, with_answers, end_done}
-use Rattle.domain_core.specs.Systems.{sender_of, domain_count, channel_count}
+use Rattle.domain_core.specs.definitions.step.EndCalls.{end_at}
+use Rattle.domain_core.specs.step.Answers.{raised, raised_by}
+use Rattle.domain_core.specs.definitions.step.Domains.{DomainView, ends_of}
+use Rattle.domain_core.specs.definitions.step.Steps.{Waits, WaitsAs, IsAsk}
+use Rattle.domain_core.specs.step.Answers.{with_answers, end_done}
+use Rattle.domain_core.specs.definitions.runs.Systems.{sender_of, domain_count, channel_count}
 use Rattle.gals_core.specs.Channels.{ChannelsState, cell_in, history_in}
-use Rattle.domain_core.specs.Compiling.{setup_of}
+use Rattle.gals_core.specs.Setups.{order_setup}
 use Rattle.gals_core.specs.Worlds.{domain_at, found_state}
-use Rattle.gals_core.proofs.DomainEnds.{IsOwn, is_end, has_side, domain_is, rises}
+use Rattle.domain_core.proofs.lemmas.step.OwnEnds.{IsOwn, own_end, has_side, rises}
+use Rattle.gals_core.proofs.OwnDomains.{domain_is}
 use Rattle.gals_core.proofs.Answered.{waited}
 use Rattle.gals_core.proofs.AtChannel.{Quiet, at_channel, waits_open}
 use Rattle.gals_core.proofs.Facing.{is_domain, across, two_sides, side_waits, own_of}
@@ -37,9 +39,9 @@ module _ (system : System) (turns rest : List ℕ) (d : ℕ) (view : ℕ → Dom
       let e = end_at ends n in
       let a = e.side in
       let b = other a in
-      let p = setup_of system in
+      let p = order_setup system in
       let in_range : c < channel_count p = omega (arith, x.sum) in
-      let own : domain_at tables a c ≡ d = ap (domain_at tables a) (sym at) ∙ domain_is tables d e (is_end tables d n less) in
+      let own : domain_at tables a c ≡ d = ap (domain_at tables a) (sym at) ∙ domain_is tables d e (own_end tables d n less) in
       let o = domain_at tables b c in
       let o_within : o < domain_count p = is_domain system c turn.sys in_range b in
       let o_other : o ≢ d = λ q. across system c turn.sys in_range a (q ∙ sym own) in
@@ -78,7 +80,7 @@ module _ (system : System) (turns rest : List ℕ) (d : ℕ) (view : ℕ → Dom
   foreign c n left x none =
       let tables = tables_of system in
       let ends = ends_of tables d in
-      let p = setup_of system in
+      let p = order_setup system in
       let in_range : c < channel_count p = omega (arith, x.sum) in
       let same = turn.offered.other_cells c (λ k l q. none k l (sym q)) in
       let not_own : (side : Side) → IsOwn d side (channel_at tables c) → ⊥ = λ side own. let f = has_side tables d c side in_range own in none f.place f.within (ap (λ z. z.channel) f.is) in

@@ -4,18 +4,21 @@ use Rattle.std.specs.Prelude.{◌==◌, ◌||◌, max}
 use Rattle.std.proofs.Math.Path.{fun_ext}
 use Rattle.std.proofs.lemmas.Bool.{cases_eq, ne_eqb, eqb-false}
 use Rattle.kernel_terms.specs.Statements.{Stmt}
-use Rattle.kernel_rules.specs.LegalTick.{DomainState}
-use Rattle.kernel_rules.specs.Signals.{put_at}
+use Rattle.kernel_rules.specs.definitions.LegalTick.{DomainState}
+use Rattle.kernel_rules.specs.definitions.Signals.{put_at}
 use Rattle.cell_core.specs.declared.moves.Side.{Side}
 use Rattle.cell_core.specs.declared.moves.Side.TheVariants.{Sender, Receiver}
 use Rattle.cell_core.specs.declared.moves.Joined.{Joined}
-use Rattle.domain_core.specs.declared.ends_of.EndOf.{EndOf}
-use Rattle.domain_core.specs.EndCalls.{end_at}
-use Rattle.domain_core.specs.EndPlaces.{raised, raised_by}
-use Rattle.domain_core.specs.Systems.{rewritten, no_channel}
-use Rattle.domain_core.specs.Steps.{Waits, WaitsAs, side_done, end_done, with_answers, join_stamp}
-use Rattle.domain_core.proofs.Joins.{rewritten-both, rewritten-same, still_sends, still_receives, waited_to_send, waited_to_receive}
-use Rattle.domain_core.proofs.Places.{put_here, put_apart}
+use Rattle.domain_core.specs.declared.step.ends_of.EndOf.{EndOf}
+use Rattle.domain_core.specs.definitions.step.EndCalls.{end_at}
+use Rattle.domain_core.specs.step.Answers.{raised, raised_by}
+use Rattle.domain_core.specs.definitions.runs.Systems.{rewritten}
+use Rattle.domain_core.specs.step.Answers.{no_channel}
+use Rattle.domain_core.specs.definitions.step.Steps.{Waits, WaitsAs}
+use Rattle.domain_core.specs.definitions.runs.Stamps.{stamp_of_join}
+use Rattle.domain_core.specs.step.Answers.{side_done, end_done, with_answers}
+use Rattle.domain_core.proofs.lemmas.runs.Joins.{rewritten-both, rewritten-same, still_sends, still_receives, waited_to_send, waited_to_receive}
+use Rattle.domain_core.proofs.lemmas.runs.Places.{put_here, put_apart}
 
 pub answers_same : (ends : List EndOf) (a b : List (Option Joined)) (n : ℕ) (s : DomainState) → ((k : ℕ) → k < n → get_or a k None ≡ get_or b k None) → with_answers ends a n s ≡ with_answers ends b n s
 answers_same ends a b zero s h = refl
@@ -41,18 +44,18 @@ pub record OneMore (a b : List (Option Joined)) (m n : ℕ) (j : Joined) : Type 
 of_fewer : (a b : List (Option Joined)) (m n : ℕ) (j : Joined) → OneMore a b m (suc n) j → OneMore a b m n j
 of_fewer a b m n j h = record { others = λ k l. h.others k (omega (arith, l)); old = h.old; new = h.new }
 
-pub raised_more : (a b : List (Option Joined)) (m n x : ℕ) (j : Joined) → OneMore a b m n j → m < n → raised b n x ≡ max (raised a n x) (join_stamp j)
+pub raised_more : (a b : List (Option Joined)) (m n x : ℕ) (j : Joined) → OneMore a b m n j → m < n → raised b n x ≡ max (raised a n x) (stamp_of_join j)
 raised_more a b m zero x j h less = absurd (omega (arith, less))
 raised_more a b m (suc n) x j h less = elim (cases_eq m n) [
   | inl e ↦
       let more : get_or b n None ≡ Some j = ap (λ k. get_or b k None) (sym e) ∙ h.new in
       let none : get_or a n None ≡ None = ap (λ k. get_or a k None) (sym e) ∙ h.old in
       let same : raised b n x ≡ raised a n x = raised_same b a n x (λ k l. h.others k (omega (arith, l)) (λ q. omega (arith, l, q, e))) in
-      ap (λ y. raised_by y (raised b n x)) more ∙ ap (λ y. max y (join_stamp j)) (same ∙ sym (ap (λ y. raised_by y (raised a n x)) none))
+      ap (λ y. raised_by y (raised b n x)) more ∙ ap (λ y. max y (stamp_of_join j)) (same ∙ sym (ap (λ y. raised_by y (raised a n x)) none))
   | inr ne ↦
       ap (λ y. raised_by y (raised b n x)) (h.others n (omega arith) (λ q. ne (sym q)))
       ∙ ap (raised_by (get_or a n None)) (raised_more a b m n x j (of_fewer a b m n j h) (omega (arith, less, ne)))
-      ∙ raise_max (get_or a n None) (raised a n x) (join_stamp j)
+      ∙ raise_max (get_or a n None) (raised a n x) (stamp_of_join j)
 ]
 
 or_comm : (x y : Bool) → (x || y) ≡ (y || x)
@@ -109,7 +112,7 @@ answers_more ends a b m (suc n) j s h apart less = elim (cases_eq m n) [
       ∙ swap_ends (end_at ends n) (end_at ends m) (get_or a n None) j (with_answers ends a n s) (apart n (omega arith) (λ q. ne (sym q)))
 ]
 
--- answers change neither the number of ticks nor whether the domain has ended
+-- answers change neither the number of ticks nor how the domain stands
 pub answers_ticks : (ends : List EndOf) (a : List (Option Joined)) (n : ℕ) (s : DomainState) → (with_answers ends a n s).ticks ≡ s.ticks
 answers_ticks ends a zero s = refl
 answers_ticks ends a (suc n) s = one (end_at ends n) (get_or a n None) (with_answers ends a n s) ∙ answers_ticks ends a n s
@@ -122,15 +125,15 @@ answers_ticks ends a (suc n) s = one (end_at ends n) (get_or a n None) (with_ans
     one e None t = refl
     one e (Some j) t = side e.side e.channel j.value t
 
-pub answers_ended : (ends : List EndOf) (a : List (Option Joined)) (n : ℕ) (s : DomainState) → (with_answers ends a n s).ended ≡ s.ended
-answers_ended ends a zero s = refl
-answers_ended ends a (suc n) s = one (end_at ends n) (get_or a n None) (with_answers ends a n s) ∙ answers_ended ends a n s
+pub answers_mark : (ends : List EndOf) (a : List (Option Joined)) (n : ℕ) (s : DomainState) → (with_answers ends a n s).mark ≡ s.mark
+answers_mark ends a zero s = refl
+answers_mark ends a (suc n) s = one (end_at ends n) (get_or a n None) (with_answers ends a n s) ∙ answers_mark ends a n s
   where
-    side : (b : Side) (c : ℕ) (v : ℤ) (t : DomainState) → (side_done b c v t).ended ≡ t.ended
+    side : (b : Side) (c : ℕ) (v : ℤ) (t : DomainState) → (side_done b c v t).mark ≡ t.mark
     side Sender c v t = refl
     side Receiver c v t = refl
 
-    one : (e : EndOf) (o : Option Joined) (t : DomainState) → (end_done e o t).ended ≡ t.ended
+    one : (e : EndOf) (o : Option Joined) (t : DomainState) → (end_done e o t).mark ≡ t.mark
     one e None t = refl
     one e (Some j) t = side e.side e.channel j.value t
 

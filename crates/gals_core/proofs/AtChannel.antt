@@ -11,10 +11,10 @@ use Rattle.cell_core.specs.declared.cell.Standing.{Standing}
 use Rattle.cell_core.specs.declared.cell.Standing.TheVariants.{Empty, Open, Taken}
 use Rattle.cell_core.specs.Cells.{CellState, cell_of, other, standing_at, stands, recall_reply, join_of, offer_reply, after_own_offer, after_offer}
 use Rattle.cell_core.specs.CellEnds.{standing_offer}
-use Rattle.domain_core.specs.declared.ends_of.EndOf.{EndOf}
-use Rattle.domain_core.specs.EndCalls.{end_at}
-use Rattle.domain_core.specs.Domains.{DomainView, ends_of, state_of}
-use Rattle.domain_core.specs.Steps.{Waits, IsWaitingOffer}
+use Rattle.domain_core.specs.declared.step.ends_of.EndOf.{EndOf}
+use Rattle.domain_core.specs.definitions.step.EndCalls.{end_at}
+use Rattle.domain_core.specs.definitions.step.Domains.{DomainView, ends_of, state_of}
+use Rattle.domain_core.specs.definitions.step.Steps.{Waits, IsWaitingOffer}
 use Rattle.gals_core.specs.Channels.{ChannelsState, cell_in, history_in, row_in}
 use Rattle.gals_core.specs.Worlds.{IsInCells, pending, found_state}
 use Rattle.gals_core.proofs.Answered.{waited, waits_unanswered}

@@ -2,29 +2,31 @@
 use Rattle.std.proofs.Common.{◌≡◌, ◌≢◌, ℕ, suc, ◌+◌, ◌*◌, ◌^◌, ◌<◌, ◌≤◌, true, false, List, [], ◌∷◌, length, get_or, None, refl, sym, ap, ◌∙◌, subst, inl, inr, arith}
 use Rattle.std.specs.Prelude.{◌==◌, IsSomeAnd, IsNone, All}
 use Rattle.std.proofs.Math.ListN.{set}
-use Rattle.std.proofs.lemmas.Bool.{cases_eq, eq-eqb, ne_eqb, cond-true, cond-false, true≢false}
+use Rattle.std.proofs.lemmas.Bool.{cases_eq, eq-eqb, ne_eqb, cond-true, cond-false}
 use Rattle.std.proofs.lemmas.List.{length-append, length-set, get_or-set_same, get_or-set_other}
 use Rattle.kernel_terms.specs.declared.system.System.{System}
 use Rattle.kernel_terms.specs.Systems.{tables_of}
 use Rattle.kernel_terms.specs.TableEntries.{channel_at, interface_of}
-use Rattle.tick_log.specs.RunText.{interface_signals}
-use Rattle.tick_log.specs.Fits.{IsEntry, most_ticks}
+use Rattle.kernel_terms.specs.Marks.{Mark, Going, Ended, is_over}
+use Rattle.kernel_rules.specs.definitions.LegalTick.{no_inputs}
+use Rattle.tick_log.specs.definitions.RunText.{interface_signals}
+use Rattle.tick_log.specs.definitions.Fits.{IsEntry, most_ticks}
 use Rattle.cell_core.specs.declared.moves.Side.{Side}
 use Rattle.cell_core.specs.declared.moves.Side.TheVariants.{Sender, Receiver}
-use Rattle.domain_core.specs.declared.ends_of.EndOf.{EndOf}
-use Rattle.domain_core.specs.declared.outcome.Outcome.TheVariants.{Going, Ended}
-use Rattle.domain_core.specs.declared.outcome.Stepped.{Stepped}
-use Rattle.domain_core.specs.EndCalls.{end_at}
-use Rattle.domain_core.specs.EndPlaces.{raised}
-use Rattle.domain_core.specs.Domains.{DomainView, ends_of, ends_in, tables_in, tick_count_of, has_ended_as, state_of}
-use Rattle.domain_core.specs.Steps.{StandsAs, IsWaitingOffer, FitsEnd, LeavesEnd, IsStep}
-use Rattle.domain_core.specs.Compiling.{setup_of}
-use Rattle.domain_core.specs.Systems.{domain_count, channel_count}
-use Rattle.domain_core.specs.Scheduled.{turns_of}
+use Rattle.domain_core.specs.declared.step.ends_of.EndOf.{EndOf}
+use Rattle.domain_core.specs.declared.step.outcome.Stepped.{Stepped}
+use Rattle.domain_core.specs.definitions.step.EndCalls.{end_at}
+use Rattle.domain_core.specs.step.Answers.{raised}
+use Rattle.domain_core.specs.definitions.step.Domains.{DomainView, ends_of, ends_in, tables_in, tick_count_of, state_of}
+use Rattle.domain_core.specs.definitions.step.Steps.{StandsAs, IsWaitingOffer, FitsEnd, LeavesEnd, IsStep}
+use Rattle.gals_core.specs.Setups.{order_setup}
+use Rattle.domain_core.specs.definitions.runs.Systems.{domain_count, channel_count}
+use Rattle.domain_core.specs.definitions.runs.Scheduled.{turns_of}
 use Rattle.gals_core.specs.Channels.{ChannelsState, Moves, cell_in, history_in, ticks_in, link_at, end_view}
 use Rattle.gals_core.specs.Worlds.{IsInCells, own_side, StandsFor}
-use Rattle.gals_core.specs.OrderRuns.{IsBetweenTurns, FitSoFar, view_at, no_domain}
-use Rattle.gals_core.proofs.DomainEnds.{IsOwn, is_end, has_side}
+use Rattle.gals_core.specs.BetweenTurns.{IsBetweenTurns, FitSoFar}
+use Rattle.gals_core.specs.definitions.OrderPlans.{view_at, no_domain}
+use Rattle.domain_core.proofs.lemmas.step.OwnEnds.{IsOwn, own_end, has_side}
 use Rattle.gals_core.proofs.Effects.{new_rows}
 use Rattle.gals_core.proofs.OwnStep.{OwnStep, at_own, ends_at, after_step}
 use Rattle.gals_core.proofs.WholeTurn.{Begins}
@@ -39,7 +41,7 @@ module _ (system : System) (turns rest : List ℕ) (d : ℕ) (views : List Domai
   abbrev E : List EndOf
   E = ends_at system d
 
-  pub within : d < domain_count (setup_of system)
+  pub within : d < domain_count (order_setup system)
   within = k.turns_within 0 (omega arith)
 
   pub in_views : d < length views
@@ -66,15 +68,21 @@ module _ (system : System) (turns rest : List ℕ) (d : ℕ) (views : List Domai
   view_in : IsInCells system d (cell_in b) v
   view_in = k.stands.views d within
 
-  pub goes : has_ended_as v.outcome ≡ false → v.outcome ≡ Going
-  goes h = elim view_in.runs [ inl q ↦ q | inr q ↦ absurd (true≢false (sym (ap has_ended_as q) ∙ h)) ]
+  pub goes : is_over v.log.mark ≡ false → v.log.mark ≡ Going
+  goes h = by_mark v.log.mark h
+    where
+      by_mark : (m : Mark) → is_over m ≡ false → m ≡ Going
+      by_mark Going h = refl
+      by_mark Ended h = absurd cc
+
+  pub runs : v.stopped ≡ false
+  runs = view_in.runs
 
   ends_are : ends_in v ≡ E
   ends_are = at_own v system d view_in.of_system view_in.of_domain (λ y x. ends_in v ≡ ends_of (tables_of y) x) refl
 
-  pub skipped : has_ended_as v.outcome ≡ true → IsBetweenTurns system turns rest views b
+  pub skipped : is_over v.log.mark ≡ true → IsBetweenTurns system turns rest views b
   skipped h =
-      let over : v.outcome ≡ Ended = elim view_in.runs [ inl q ↦ absurd (true≢false (sym h ∙ ap has_ended_as q)) | inr q ↦ q ] in
       record {
         is_system = k.is_system;
         few = k.few;
@@ -89,7 +97,7 @@ module _ (system : System) (turns rest : List ℕ) (d : ℕ) (views : List Domai
         ticks = k.ticks;
         lists = k.lists;
         rooms = λ c l. omega (arith, k.rooms c l, never_more (channel_at (tables_of system) c).sender, never_more (channel_at (tables_of system) c).receiver);
-        stands = skip_turn system turns rest d (view_at system views) (cell_in b) (λ c. (history_in b c).rows) within over k.stands;
+        stands = skip_turn system turns rest d (view_at system views) (cell_in b) (λ c. (history_in b c).rows) within h k.stands;
         fits = k.fits;
       }
 
@@ -106,7 +114,7 @@ module _ (system : System) (turns rest : List ℕ) (d : ℕ) (views : List Domai
   pub all_fit : (n : ℕ) → n < length (ends_in v) → FitsEnd v n (end_view begun n)
   all_fit n less =
       let l : n < length E = subst (λ z. n < length z) ends_are less in
-      let x = is_end (tables_of system) d n l in
+      let x = own_end (tables_of system) d n l in
       let ch = (end_at E n).channel in
       record {
         side = ap (λ z. (end_at z n).side) (own_ends ∙ sym ends_are);
@@ -133,7 +141,7 @@ module _ (system : System) (turns rest : List ℕ) (d : ℕ) (views : List Domai
     their_ticks = λ e l ne. get_or-set_other b.ticks d e (get_or b.ticks d 0 + 1) 0 ne ∙ k.ticks e l;
   }
 
-  few_ticks : (e : ℕ) → e < domain_count (setup_of system) → ticks_in begun e ≤ most_ticks
+  few_ticks : (e : ℕ) → e < domain_count (order_setup system) → ticks_in begun e ≤ most_ticks
   few_ticks e l = elim (cases_eq e d) [
     | inl q ↦ subst (λ z. ticks_in begun z ≤ most_ticks) (sym q) (omega (arith, begins.my_ticks, k.limit d within, mine_less))
     | inr ne ↦ omega (arith, begins.their_ticks e l ne, k.limit e l)
@@ -142,7 +150,7 @@ module _ (system : System) (turns rest : List ℕ) (d : ℕ) (views : List Domai
   few_turns : 2 * length turns ≤ 2 ^ 62
   few_turns = omega (arith, k.few)
 
-  module _ (after : ChannelsState) (new : DomainView) (result : Stepped) (i : IsStep Moves begun after v new result) (leaves : (n : ℕ) → n < length (ends_in v) → LeavesEnd new n (end_view begun n) (end_view after n)) where
+  module _ (after : ChannelsState) (new : DomainView) (result : Stepped) (i : IsStep Moves no_inputs begun after v new result) (leaves : (n : ℕ) → n < length (ends_in v) → LeavesEnd new n (end_view begun n) (end_view after n)) where
     abbrev views' : List DomainView
     views' = set views d new
 
@@ -152,8 +160,8 @@ module _ (system : System) (turns rest : List ℕ) (d : ℕ) (views : List Domai
     there : (e : ℕ) → e ≢ d → view_at system views' e ≡ view_at system views e
     there e ne = get_or-set_other views d e new (no_domain system) ne
 
-    step : IsStep Moves begun after v (view_at system views' d) result
-    step = subst (λ z. IsStep Moves begun after v z result) (sym here) i
+    step : IsStep Moves no_inputs begun after v (view_at system views' d) result
+    step = subst (λ z. IsStep Moves no_inputs begun after v z result) (sym here) i
 
     x : OwnStep system d v (view_at system views' d) begun after
     x = made system turns rest d (view_at system views) (view_at system views') begun after begins own_ends k.stands few_turns result step
@@ -170,7 +178,7 @@ module _ (system : System) (turns rest : List ℕ) (d : ℕ) (views : List Domai
         subst (λ z. StandsAs (view_at system views' d) n (own_side (cell_in after) (end_at z n))) (after_ends ∙ sym new_ends)
         (subst (λ z. StandsAs z n (own_side (cell_in after) (end_at after.ends n))) (sym here) (leaves n l).stands)
 
-    grown : (c : ℕ) → c < channel_count (setup_of system) → (side : Side) → IsOwn d side (channel_at (tables_of system) c) → length (history_in after c).rows ≤ length (history_in b c).rows + 1
+    grown : (c : ℕ) → c < channel_count (order_setup system) → (side : Side) → IsOwn d side (channel_at (tables_of system) c) → length (history_in after c).rows ≤ length (history_in b c).rows + 1
     grown c l side own =
         let f = has_side (tables_of system) d c side l own in
         let at : (end_at E f.place).channel ≡ c = ap (λ z. z.channel) f.is in
@@ -187,7 +195,7 @@ module _ (system : System) (turns rest : List ℕ) (d : ℕ) (views : List Domai
 
     not_grown : (c : ℕ) → ((side : Side) → IsOwn d side (channel_at (tables_of system) c) → ⊥) → length (history_in after c).rows ≤ length (history_in b c).rows
     not_grown c none =
-        let far : (n : ℕ) → n < length E → c ≢ (end_at E n).channel = λ n l q. let y = is_end (tables_of system) d n l in none (end_at E n).side (subst (λ z. IsOwn d (end_at E n).side (channel_at (tables_of system) z)) (sym q) y.own) in
+        let far : (n : ℕ) → n < length E → c ≢ (end_at E n).channel = λ n l q. let y = own_end (tables_of system) d n l in none (end_at E n).side (subst (λ z. IsOwn d (end_at E n).side (channel_at (tables_of system) z)) (sym q) y.own) in
         omega (arith, ap length (x.offered.other_rows c far), ap length (x.recalled.rows c))
 
     stand : StandsFor system turns rest (view_at system views') (cell_in after) (λ c. (history_in after c).rows)
@@ -197,6 +205,9 @@ module _ (system : System) (turns rest : List ℕ) (d : ℕ) (views : List Domai
     low =
         let since = (after_step system d v (view_at system views' d) begun after view_in x left).since in
         omega (arith, since, stand.since_is d within, stand.low d within, k.few)
+
+    count : tick_count_of (view_at system views' d) ≡ tick_count_of v + 1
+    count = ap length x.entries ∙ length-append v.log.entries (record { stamp = x.stamp; statuses = x.statuses } ∷ [])
 
     fit : FitSoFar system views' after
     fit = record {
@@ -210,6 +221,10 @@ module _ (system : System) (turns rest : List ℕ) (d : ℕ) (views : List Domai
             (entries_fit system d v (view_at system views' d) begun after x (k.fits.entries d within))
         | inr ne ↦ subst (λ z. All (IsEntry (interface_signals (tables_of system) e)) z.log.entries) (sym (there e ne)) (k.fits.entries e l)
       ];
+      marks = λ e l over. elim (cases_eq e d) [
+        | inl q ↦ omega (arith, ap (λ z. tick_count_of (view_at system views' z)) q, count)
+        | inr ne ↦ omega (arith, ap tick_count_of (there e ne), k.fits.marks e l (ap (λ z. is_over z.log.mark) (sym (there e ne)) ∙ over))
+      ];
       rows = λ c l. rows_fit system d v (view_at system views' d) begun after x k.is_system k.links few_ticks low c l (k.fits.rows c l);
     }
 
@@ -217,7 +232,6 @@ module _ (system : System) (turns rest : List ℕ) (d : ℕ) (views : List Domai
     stepped =
         let m = same_memory begun _ after i.through in
         let spent = i.spare in
-        let count : tick_count_of (view_at system views' d) ≡ tick_count_of v + 1 = ap length x.entries ∙ length-append v.log.entries (record { stamp = x.stamp; statuses = x.statuses } ∷ []) in
         record {
           is_system = k.is_system;
           few = k.few;

@@ -12,9 +12,9 @@ use Rattle.cell_core.specs.declared.cell.Standing.TheVariants.{Empty, Open, Take
 use Rattle.cell_core.specs.Cells.{CellState, cell_step, cell_reply, cell_of, other, standing_at, stands, recall_reply}
 use Rattle.cell_core.specs.Ends.{EndCall, Through}
 use Rattle.tick_log.specs.declared.history.JoinRow.{JoinRow}
-use Rattle.domain_core.specs.declared.ends_of.EndOf.{EndOf}
-use Rattle.domain_core.specs.EndCalls.{end_at, recall_of, recalls, offer_of, offers}
-use Rattle.domain_core.proofs.StateJoins.{AreApart}
+use Rattle.domain_core.specs.declared.step.ends_of.EndOf.{EndOf}
+use Rattle.domain_core.specs.definitions.step.EndCalls.{end_at, recall_of, recalls, offer_of, offers}
+use Rattle.domain_core.proofs.lemmas.step.StateJoins.{AreApart}
 use Rattle.gals_core.specs.Channels.{ChannelsState, Moves, MovesAt, cell_in, history_in, row_in, rows_of}
 
 pub record Split {S : Type 0} (moved : S → ℕ → CellMove → Option Joined → S → Type 0) (first : S) (calls more : List EndCall) (last : S) : Type 0 where

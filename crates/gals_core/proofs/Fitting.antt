@@ -6,35 +6,36 @@ use Rattle.std.proofs.lemmas.List.Elements.{All-append, All-push}
 use Rattle.kernel_terms.specs.declared.system.System.{System}
 use Rattle.kernel_terms.specs.Systems.{tables_of}
 use Rattle.kernel_terms.specs.TableEntries.{channel_at}
-use Rattle.tick_log.specs.RunText.{interface_signals}
-use Rattle.tick_log.specs.Fits.{IsEntry, IsRow, most_ticks}
+use Rattle.tick_log.specs.definitions.RunText.{interface_signals}
+use Rattle.tick_log.specs.definitions.Fits.{IsEntry, IsRow, most_ticks}
 use Rattle.cell_core.specs.declared.moves.Side.{Side}
 use Rattle.cell_core.specs.declared.moves.Side.TheVariants.{Sender, Receiver}
 use Rattle.cell_core.specs.declared.moves.Joined.{Joined}
-use Rattle.domain_core.specs.EndCalls.{end_at}
-use Rattle.domain_core.specs.EndPlaces.{raised, raised_by}
-use Rattle.domain_core.specs.Domains.{DomainView}
-use Rattle.domain_core.specs.Steps.{FitsJoin, join_stamp}
-use Rattle.domain_core.specs.Compiling.{setup_of}
-use Rattle.domain_core.specs.Systems.{IsSystem, domain_count, channel_count}
+use Rattle.domain_core.specs.definitions.step.EndCalls.{end_at}
+use Rattle.domain_core.specs.step.Answers.{raised, raised_by}
+use Rattle.domain_core.specs.definitions.step.Domains.{DomainView}
+use Rattle.domain_core.specs.definitions.step.Steps.{FitsJoin}
+use Rattle.domain_core.specs.definitions.runs.Stamps.{stamp_of_join}
+use Rattle.gals_core.specs.Setups.{order_setup}
+use Rattle.domain_core.specs.definitions.runs.Systems.{IsSystem, domain_count, channel_count}
 use Rattle.gals_core.specs.Channels.{ChannelsState, history_in, ticks_in, link_at, row_in}
-use Rattle.gals_core.proofs.DomainEnds.{IsOwn, is_end, has_side}
+use Rattle.domain_core.proofs.lemmas.step.OwnEnds.{IsOwn, own_end, has_side}
 use Rattle.gals_core.proofs.Effects.{new_rows}
 use Rattle.gals_core.proofs.OwnStep.{OwnStep, ends_at}
 
 -- a stamp with the joins answered at the first n ends is no less than that of one of them
-raised_covers : (a : List (Option Joined)) (n m x : ℕ) (j : Joined) → m < n → get_or a m None ≡ Some j → join_stamp j ≤ raised a n x
+raised_covers : (a : List (Option Joined)) (n m x : ℕ) (j : Joined) → m < n → get_or a m None ≡ Some j → stamp_of_join j ≤ raised a n x
 raised_covers a zero m x j less q = absurd (omega (arith, less))
 raised_covers a (suc n) m x j less q = elim (cases_eq m n) [
   | inl e ↦ here (get_or a n None) (ap (λ z. get_or a z None) (sym e) ∙ q)
   | inr ne ↦ there (get_or a n None) (raised a n x) (raised_covers a n m x j (omega (arith, less, ne)) q)
 ]
   where
-    here : (o : Option Joined) → o ≡ Some j → join_stamp j ≤ raised_by o (raised a n x)
+    here : (o : Option Joined) → o ≡ Some j → stamp_of_join j ≤ raised_by o (raised a n x)
     here None h = cc
-    here (Some i) h = let e : i ≡ j = cc in subst (λ z. join_stamp z ≤ max (raised a n x) (join_stamp i)) e (omega arith)
+    here (Some i) h = let e : i ≡ j = cc in subst (λ z. stamp_of_join z ≤ max (raised a n x) (stamp_of_join i)) e (omega arith)
 
-    there : (o : Option Joined) (y : ℕ) → join_stamp j ≤ y → join_stamp j ≤ raised_by o y
+    there : (o : Option Joined) (y : ℕ) → stamp_of_join j ≤ y → stamp_of_join j ≤ raised_by o y
     there None y h = h
     there (Some i) y h = omega (arith, h)
 
@@ -46,9 +47,9 @@ module _ (system : System) (d : ℕ) (old new : DomainView) (before after : Chan
       (All-push P old.log.entries (record { stamp = x.stamp; statuses = x.statuses }) h
       (record { stamp = record { first = omega (arith, x.next); last = x.limit }; statuses = x.shows }))
 
-  module _ (sys : IsSystem (setup_of system))
-      (links : (c : ℕ) → c < channel_count (setup_of system) → ((link_at before.links c).sender ≡ (channel_at (tables_of system) c).sender) × ((link_at before.links c).receiver ≡ (channel_at (tables_of system) c).receiver))
-      (few : (e : ℕ) → e < domain_count (setup_of system) → ticks_in before e ≤ most_ticks) (low : raised x.replies (length (ends_at system d)) x.stamp < 2 ^ 62) where
+  module _ (sys : IsSystem (order_setup system))
+      (links : (c : ℕ) → c < channel_count (order_setup system) → ((link_at before.links c).sender ≡ (channel_at (tables_of system) c).sender) × ((link_at before.links c).receiver ≡ (channel_at (tables_of system) c).receiver))
+      (few : (e : ℕ) → e < domain_count (order_setup system) → ticks_in before e ≤ most_ticks) (low : raised x.replies (length (ends_at system d)) x.stamp < 2 ^ 62) where
     abbrev at : ℕ → ℕ
     at n = (end_at (ends_at system d) n).channel
 
@@ -57,7 +58,7 @@ module _ (system : System) (d : ℕ) (old new : DomainView) (before after : Chan
     row_fits n less (Some j) q =
         let c = at n in
         let info = channel_at (tables_of system) c in
-        let y = is_end (tables_of system) d n less in
+        let y = own_end (tables_of system) d n less in
         let f : FitsJoin info.kind x.stamp j = subst (λ z. IfSome z (FitsJoin info.kind x.stamp)) q (x.fit n less) in
         let s : get_or x.middle.ticks (link_at x.middle.links c).sender 0 ≡ ticks_in before info.sender =
         ap (λ z. get_or z (link_at x.middle.links c).sender 0) x.recalled.ticks
@@ -85,7 +86,7 @@ module _ (system : System) (d : ℕ) (old new : DomainView) (before after : Chan
     abbrev Fit : ChannelsState → ℕ → Type 0
     Fit b c = All (IsRow (channel_at (tables_of system) c).kind) (history_in b c).rows
 
-    at_own : (c : ℕ) → c < channel_count (setup_of system) → (side : Side) → IsOwn d side (channel_at (tables_of system) c) → Fit before c → Fit after c
+    at_own : (c : ℕ) → c < channel_count (order_setup system) → (side : Side) → IsOwn d side (channel_at (tables_of system) c) → Fit before c → Fit after c
     at_own c less side own h =
         let f = has_side (tables_of system) d c side less own in
         let is : at f.place ≡ c = ap (λ z. z.channel) f.is in
@@ -94,11 +95,11 @@ module _ (system : System) (d : ℕ) (old new : DomainView) (before after : Chan
     at_other : (c : ℕ) → ((side : Side) → IsOwn d side (channel_at (tables_of system) c) → ⊥) → Fit before c → Fit after c
     at_other c none h =
         let far : (n : ℕ) → n < length (ends_at system d) → c ≢ at n = λ n less q.
-        let y = is_end (tables_of system) d n less in
+        let y = own_end (tables_of system) d n less in
         none (end_at (ends_at system d) n).side (subst (λ z. IsOwn d (end_at (ends_at system d) n).side (channel_at (tables_of system) z)) (sym q) y.own) in
         subst (All (IsRow (channel_at (tables_of system) c).kind)) (sym (x.offered.other_rows c far ∙ x.recalled.rows c)) h
 
-    pub rows_fit : (c : ℕ) → c < channel_count (setup_of system) → Fit before c → Fit after c
+    pub rows_fit : (c : ℕ) → c < channel_count (order_setup system) → Fit before c → Fit after c
     rows_fit c less h = elim (cases_eq (channel_at (tables_of system) c).sender d) [
       | inl q ↦ at_own c less Sender q h
       | inr ns ↦ elim (cases_eq (channel_at (tables_of system) c).receiver d) [

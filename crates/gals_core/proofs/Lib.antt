@@ -1,4 +1,5 @@
-pub mod DomainEnds
+pub mod OwnDomains
+pub mod PairLemmas
 pub mod Answered
 pub mod Effects
 pub mod AtChannel

@@ -4,7 +4,7 @@ use Rattle.std.proofs.Math.ListN.{set}
 use Rattle.std.proofs.lemmas.Bool.{cases_eq}
 use Rattle.std.proofs.lemmas.List.{length-append, length-set, append-nil, get_or-set_same, get_or-set_other}
 use Rattle.tick_log.specs.declared.history.JoinRow.{JoinRow}
-use Rattle.tick_log.specs.Runs.{HistoryState}
+use Rattle.tick_log.specs.definitions.Containers.{HistoryState}
 use Rattle.cell_core.specs.declared.moves.Side.{Side}
 use Rattle.cell_core.specs.declared.moves.Joined.{Joined}
 use Rattle.cell_core.specs.declared.moves.CellMove.{CellMove}
@@ -13,8 +13,8 @@ use Rattle.cell_core.specs.Cells.{CellState, cell_step, cell_reply, empty_cell, 
 use Rattle.cell_core.specs.CellEnds.{standing_offer, end_of_cell, CellFits, MoveFits, OfferFits}
 use Rattle.cell_core.specs.Ends.{EndView, ChangesOwnEnd, ValueFits, JoinsOffer, JoinsStanding, IsOffer}
 use Rattle.cell_core.proofs.CellLemmas.{step_fits, recall_joins, offer_joins, offer_stands}
-use Rattle.domain_core.specs.declared.ends_of.EndOf.{EndOf}
-use Rattle.domain_core.specs.EndCalls.{end_at}
+use Rattle.domain_core.specs.declared.step.ends_of.EndOf.{EndOf}
+use Rattle.domain_core.specs.definitions.step.EndCalls.{end_at}
 use Rattle.gals_core.specs.Channels.{ChannelsState, AreChannels, EndsFit, MovesAt, link_at, cell_in, history_in, row_of, rows_of, with_reply, no_history, end_view}
 
 -- the histories with these rows more at a channel

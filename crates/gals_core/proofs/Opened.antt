@@ -7,20 +7,22 @@ use Rattle.kernel_terms.specs.declared.system.System.{System}
 use Rattle.kernel_terms.specs.declared.tables.ChannelInfo.{ChannelInfo}
 use Rattle.kernel_terms.specs.Systems.{tables_of, domains_of}
 use Rattle.kernel_terms.specs.Statements.{statement}
+use Rattle.kernel_rules.specs.definitions.LegalTick.{no_inputs}
 use Rattle.kernel_terms.specs.TableEntries.{channel_at, no_channel}
 use Rattle.java_values.specs.declared.kind.Kind.TheVariants as kind
-use Rattle.tick_log.specs.Runs.{HistoryState}
+use Rattle.tick_log.specs.definitions.Containers.{HistoryState}
 use Rattle.cell_core.specs.Cells.{CellState, empty_cell}
 use Rattle.cell_core.specs.CellEnds.{CellFits}
-use Rattle.domain_core.specs.declared.ends_of.EndOf.{EndOf}
-use Rattle.domain_core.specs.Domains.{DomainView, ends_of, ends_in}
-use Rattle.domain_core.proofs.WellFormedSystems.{system_joins}
+use Rattle.domain_core.specs.declared.step.ends_of.EndOf.{EndOf}
+use Rattle.domain_core.specs.definitions.step.Domains.{DomainView, ends_of, ends_in}
+use Rattle.domain_core.proofs.lemmas.runs.WellFormedSystems.{system_joins}
 use Rattle.gals_core.specs.declared.links.Link.{Link}
 use Rattle.gals_core.specs.Channels.{ChannelsState, AreChannels, EndsFit, link_at, cell_in}
-use Rattle.gals_core.specs.OrderRuns.{view_at, no_domain}
+use Rattle.gals_core.specs.definitions.OrderPlans.{view_at, no_domain}
 use Rattle.gals_core.specs.Opening.{AreOpened, IsWithin, link_of, opened_history}
-use Rattle.gals_core.specs.OrderPlans.{AreDomainsOf, AreBudgets}
-use Rattle.gals_core.proofs.DomainEnds.{is_end, apart}
+use Rattle.gals_core.specs.definitions.OrderPlans.{AreDomainsOf, AreBudgets}
+use Rattle.domain_core.proofs.lemmas.step.StateJoins.{ends_apart}
+use Rattle.domain_core.proofs.lemmas.step.OwnEnds.{own_end}
 use Rattle.gals_core.proofs.OwnStep.{at_own}
 
 pub link_is : (infos : List ChannelInfo) (c : ℕ) → c < length infos → link_at (map link_of infos) c ≡ link_of (get_or infos c no_channel)
@@ -42,8 +44,8 @@ module _ (system : System) (ticks : List ℕ) (views : List DomainView) (are : A
   pub all_within : All (IsWithin (length ticks)) infos
   all_within k d less =
       let same : get_or infos k no_channel ≡ get_or infos k d = get_or_default infos k no_channel d less in
-      let s = (system_joins system).sender k less in
-      let r = (system_joins system).receiver k less in
+      let s = (system_joins system no_inputs).sender k less in
+      let r = (system_joins system no_inputs).receiver k less in
       let within : IsWithin (length ticks) (get_or infos k no_channel) = record {
         sender = omega (arith, s, domain_total system, budgets.count);
         receiver = omega (arith, r, domain_total system, budgets.count);
@@ -76,8 +78,8 @@ module _ (system : System) (ticks : List ℕ) (views : List DomainView) (are : A
 
     own_fit : (d : ℕ) → EndsFit links (ends_of (tables_of system) d)
     own_fit d = record {
-      apart = apart (tables_of system) d;
-      within = λ n less. let y = is_end (tables_of system) d n less in omega (arith, y.channel, link_count);
+      apart = ends_apart (tables_of system) d;
+      within = λ n less. let y = own_end (tables_of system) d n less in omega (arith, y.channel, link_count);
     }
 
     no_ends : EndsFit links []
@@ -88,8 +90,8 @@ module _ (system : System) (ticks : List ℕ) (views : List DomainView) (are : A
       cell_count = ap length cells_are ∙ length-replicate (length infos) empty_cell ∙ sym link_count;
       history_count = ap length histories_are ∙ length-map infos (opened_history ticks) ∙ sym link_count;
       fits = λ c less. subst (CellFits (link_at links c).kind) (sym (cell_here c)) (record { sender = tt; receiver = tt });
-      senders = λ c less. omega (arith, ap (λ (z : Link). z.sender) (link_here c less), (system_joins system).sender c (omega (arith, less, link_count)), domain_total system, made_count);
-      receivers = λ c less. omega (arith, ap (λ (z : Link). z.receiver) (link_here c less), (system_joins system).receiver c (omega (arith, less, link_count)), domain_total system, made_count);
+      senders = λ c less. omega (arith, ap (λ (z : Link). z.sender) (link_here c less), (system_joins system no_inputs).sender c (omega (arith, less, link_count)), domain_total system, made_count);
+      receivers = λ c less. omega (arith, ap (λ (z : Link). z.receiver) (link_here c less), (system_joins system no_inputs).receiver c (omega (arith, less, link_count)), domain_total system, made_count);
       ends_fit = λ d. subst (λ z. EndsFit links (get_or z d [])) (sym lists_are) (elim (cases_lt d (length views)) [
         | inl less ↦ subst (EndsFit links) (sym (ends_are d less)) (own_fit d)
         | inr past ↦ subst (EndsFit links) (sym (get_or_past (map ends_in views) d [] (omega (arith, past, length-map views ends_in)))) no_ends

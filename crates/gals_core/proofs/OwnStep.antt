@@ -1,14 +1,13 @@
 -- A step of a domain as its cells show it.
-use Rattle.std.proofs.Common.{◌≡◌, ℕ, zero, suc, ◌<◌, ◌≤◌, ℤ, Bool, true, false, cond, List, [], ◌∷◌, ◌++◌, length, get_or, Option, Some, None, refl, sym, ap, ◌∙◌, subst, inl, inr, ◌⊎◌, arith}
+use Rattle.std.proofs.Common.{◌≡◌, ℕ, zero, suc, ◌<◌, ◌≤◌, ℤ, false, List, [], ◌∷◌, ◌++◌, length, get_or, Option, Some, None, refl, sym, ap, ◌∙◌, subst, arith}
 use Rattle.std.specs.Prelude.{IfSome, IsSomeAnd, max, ◌^◌}
 use Rattle.std.proofs.lemmas.List.{length-append}
 use Rattle.kernel_terms.specs.declared.system.System.{System}
 use Rattle.kernel_terms.specs.Systems.{tables_of}
 use Rattle.kernel_terms.specs.TableEntries.{channel_at}
-use Rattle.kernel_rules.specs.LegalTick.{DomainState, IsLegalTick}
-use Rattle.tick_log.specs.Runs.{mark_of}
-use Rattle.tick_log.specs.RunText.{interface_signals}
-use Rattle.tick_log.specs.Fits.{AreStatuses}
+use Rattle.kernel_rules.specs.definitions.LegalTick.{DomainState, no_inputs, IsLegalTick}
+use Rattle.tick_log.specs.definitions.RunText.{interface_signals}
+use Rattle.tick_log.specs.definitions.Fits.{AreStatuses}
 use Rattle.cell_core.specs.declared.moves.Side.{Side}
 use Rattle.cell_core.specs.declared.moves.Side.TheVariants.{Sender, Receiver}
 use Rattle.cell_core.specs.declared.moves.Joined.{Joined}
@@ -16,19 +15,20 @@ use Rattle.cell_core.specs.declared.cell.Standing.{Standing}
 use Rattle.cell_core.specs.declared.cell.Standing.TheVariants.{Empty, Open, Taken}
 use Rattle.cell_core.specs.Cells.{CellState, cell_of, other, standing_at, recall_reply, after_own_offer}
 use Rattle.cell_core.specs.Ends.{Through}
-use Rattle.domain_core.specs.declared.ends_of.EndOf.{EndOf}
-use Rattle.domain_core.specs.declared.outcome.Outcome.{Outcome}
-use Rattle.domain_core.specs.declared.outcome.Outcome.TheVariants.{Going, Ended}
-use Rattle.domain_core.specs.declared.outcome.Stepped.{Stepped}
-use Rattle.domain_core.specs.EndCalls.{end_at, stands_after, recalls, offers}
-use Rattle.domain_core.specs.EndPlaces.{raised, raised_by}
-use Rattle.domain_core.specs.Domains.{DomainView, ends_of, ends_in, tick_count_of, has_ended_as, state_of}
-use Rattle.domain_core.specs.Steps.{Waits, IsAsk, IsWaitingOffer, StandsAs, IsStep, MakesTick, FitsJoin, with_answers, add_joins, next_stamp, newest_of}
-use Rattle.domain_core.proofs.StateAnswers.{length_joins, with_none}
-use Rattle.domain_core.proofs.StampAnswers.{all_raised, all_other}
+use Rattle.domain_core.specs.declared.step.ends_of.EndOf.{EndOf}
+use Rattle.domain_core.specs.declared.step.outcome.Stepped.{Stepped}
+use Rattle.domain_core.specs.definitions.step.EndCalls.{end_at, stands_after, recalls, offers}
+use Rattle.domain_core.specs.step.Answers.{raised, raised_by}
+use Rattle.domain_core.specs.definitions.step.Domains.{DomainView, ends_of, ends_in, tables_in, tick_count_of, state_of}
+use Rattle.domain_core.specs.definitions.step.Steps.{Waits, IsAsk, IsWaitingOffer, StandsAs, IsStep, MakesTick, FitsJoin, add_joins}
+use Rattle.domain_core.specs.step.Answers.{with_answers, next_stamp, newest_of}
+use Rattle.domain_core.proofs.lemmas.step.StateAnswers.{length_joins, with_none}
+use Rattle.domain_core.proofs.lemmas.step.AnswersFound.{answers_found}
+use Rattle.domain_core.proofs.lemmas.step.StampAnswers.{all_raised, all_other, stamp_is_next}
+use Rattle.domain_core.proofs.lemmas.runs.WellFormedSystems.{system_joins}
 use Rattle.gals_core.specs.Channels.{ChannelsState, Moves, cell_in}
 use Rattle.gals_core.specs.Worlds.{IsInCells, own_side, pending, found_state, found_stamp}
-use Rattle.gals_core.proofs.DomainEnds.{apart}
+use Rattle.domain_core.proofs.lemmas.step.StateJoins.{ends_apart}
 use Rattle.gals_core.proofs.Answered.{waited, waits_unanswered}
 use Rattle.gals_core.proofs.Effects.{split, Recalled, Offered, all_recalled, all_offered, asked_cell}
 use Rattle.gals_core.proofs.AtChannel.{pending_at, stands_so}
@@ -50,15 +50,14 @@ pub record OwnStep (system : System) (d : ℕ) (old new : DomainView) (before af
   pub middle : ChannelsState
   pub recalled : Recalled (ends_at system d) answers (length (ends_at system d)) before middle
   pub offered : Offered (ends_at system d) asks stamp replies (length (ends_at system d)) middle after
-  pub next : stamp ≡ next_stamp old (add_joins (tick_count_of old) answers (length (ends_at system d)) old.joins)
-  pub legal : IsLegalTick (tables_of system) (λ s n. None) d (with_answers (ends_at system d) answers (length (ends_at system d)) (state_of old)) statuses ticked
+  pub next : stamp ≡ next_stamp old.stamp (tick_count_of old) (add_joins (tick_count_of old) answers (length (ends_at system d)) old.joins)
+  pub legal : IsLegalTick (tables_of system) no_inputs d (with_answers (ends_at system d) answers (length (ends_at system d)) (state_of old)) statuses ticked
   pub entries : new.log.entries ≡ old.log.entries ++ record { stamp = stamp; statuses = statuses } ∷ []
   pub limit : stamp < 2 ^ 62
   pub shows : AreStatuses (interface_signals (tables_of system) d) statuses
   pub signals : new.log.signals ≡ old.log.signals
   pub fit : (n : ℕ) → n < length (ends_at system d) → IfSome (get_or replies n None) (FitsJoin (channel_at (tables_of system) (end_at (ends_at system d) n).channel).kind stamp)
-  pub mark : new.log.mark ≡ mark_of ticked.ended
-  pub outcome : new.outcome ≡ cond ticked.ended Ended Going
+  pub runs : new.stopped ≡ false
   pub last_stamp : new.stamp ≡ stamp
   pub asked : (n : ℕ) → n < length (ends_at system d) → IsAsk (end_at (ends_at system d) n) ticked.statement (get_or asks n None)
   pub state : state_of new ≡ with_answers (ends_at system d) replies (length (ends_at system d)) ticked
@@ -68,7 +67,7 @@ pub record OwnStep (system : System) (d : ℕ) (old new : DomainView) (before af
   pub of_domain : new.domain ≡ d
 
 pub own_step : (system : System) (d : ℕ) (old new : DomainView) (before after : ChannelsState) (result : Stepped) → IsInCells system d (cell_in before) old → before.ends ≡ ends_at system d →
-    (i : IsStep Moves before after old new result) → MakesTick old new i.answers i.replies i.asks i.stamp result → OwnStep system d old new before after
+    (i : IsStep Moves no_inputs before after old new result) → MakesTick no_inputs old new i.answers i.replies i.asks i.stamp result → OwnStep system d old new before after
 own_step system d old new before after result h own i k =
     let E = ends_at system d in
     let to : (Q : System → ℕ → Type 0) → Q old.system old.domain → Q system d = at_own old system d h.of_system h.of_domain in
@@ -78,7 +77,7 @@ own_step system d old new before after result h own i k =
     Through Moves before
     (recalls (ends_of (tables_of y) x) old.standing i.answers (length (ends_of (tables_of y) x)) ++ offers (ends_of (tables_of y) x) i.asks i.stamp i.replies (length (ends_of (tables_of y) x))) after) i.through in
     let x = split Moves before (recalls E old.standing i.answers (length E)) (offers E i.asks i.stamp i.replies (length E)) after through in
-    let r = all_recalled E old.standing i.answers (length E) before x.middle (apart (tables_of system) d) (omega arith) own (stands_so system d (cell_in before) old h) alone x.before in
+    let r = all_recalled E old.standing i.answers (length E) before x.middle (ends_apart (tables_of system) d) (omega arith) own (stands_so system d (cell_in before) old h) alone x.before in
     record {
       answers = i.answers;
       asks = i.asks;
@@ -88,19 +87,19 @@ own_step system d old new before after result h own i k =
       ticked = k.after;
       middle = x.middle;
       recalled = r;
-      offered = all_offered E i.asks i.stamp i.replies (length E) x.middle after (apart (tables_of system) d) (omega arith) (r.own ∙ own) replied x.after;
-      next = to (λ y x. i.stamp ≡ next_stamp old (add_joins (tick_count_of old) i.answers (length (ends_of (tables_of y) x)) old.joins)) i.next;
-      legal = to (λ y x. IsLegalTick (tables_of y) (λ s n. None) x (with_answers (ends_of (tables_of y) x) i.answers (length (ends_of (tables_of y) x)) (state_of old)) k.statuses k.after) k.legal;
+      offered = all_offered E i.asks i.stamp i.replies (length E) x.middle after (ends_apart (tables_of system) d) (omega arith) (r.own ∙ own) replied x.after;
+      next = to (λ y x. i.stamp ≡ next_stamp old.stamp (tick_count_of old) (add_joins (tick_count_of old) i.answers (length (ends_of (tables_of y) x)) old.joins)) (stamp_is_next old.stamp (tick_count_of old) (add_joins (tick_count_of old) i.answers (length (ends_in old)) old.joins) i.stamp i.next);
+      legal = to (λ y x. IsLegalTick (tables_of y) no_inputs x (with_answers (ends_of (tables_of y) x) i.answers (length (ends_of (tables_of y) x)) (state_of old)) k.statuses k.after)
+          (subst (λ s. IsLegalTick (tables_in old) no_inputs old.domain s k.statuses k.after) (sym (answers_found (tables_in old) old.domain (system_joins old.system no_inputs).apart i.answers (state_of old))) k.legal);
       entries = ap (λ z. z.entries) k.log;
       limit = k.limit;
       shows = to (λ y x. AreStatuses (interface_signals (tables_of y) x) k.statuses) k.shows;
       signals = ap (λ z. z.signals) k.log;
       fit = to (λ y x. (n : ℕ) → n < length (ends_of (tables_of y) x) → IfSome (get_or i.replies n None) (FitsJoin (channel_at (tables_of y) (end_at (ends_of (tables_of y) x) n).channel).kind i.stamp)) k.fit;
-      mark = ap (λ z. z.mark) k.log;
-      outcome = k.results.0;
+      runs = k.going;
       last_stamp = k.last_stamp;
       asked = to (λ y x. (n : ℕ) → n < length (ends_of (tables_of y) x) → IsAsk (end_at (ends_of (tables_of y) x) n) k.after.statement (get_or i.asks n None)) k.asked;
-      state = to (λ y x. state_of new ≡ with_answers (ends_of (tables_of y) x) i.replies (length (ends_of (tables_of y) x)) k.after) k.state;
+      state = to (λ y x. state_of new ≡ with_answers (ends_of (tables_of y) x) i.replies (length (ends_of (tables_of y) x)) k.after) (k.state ∙ sym (answers_found (tables_in old) old.domain (system_joins old.system no_inputs).apart i.replies k.after));
       joins = to (λ y x. new.joins ≡ add_joins (suc (tick_count_of old)) i.replies (length (ends_of (tables_of y) x)) (add_joins (tick_count_of old) i.answers (length (ends_of (tables_of y) x)) old.joins)) k.joins;
       standing = to (λ y x. (n : ℕ) → n < length (ends_of (tables_of y) x) → get_or new.standing n false ≡ stands_after (get_or i.asks n None) (get_or i.replies n None)) k.standing;
       of_system = i.system ∙ h.of_system;
@@ -127,14 +126,6 @@ own_free Receiver (Some v) stamp o c h = ap (λ z. recall_reply z.receiver) h �
 pub raised_none : (a : List (Option Joined)) (n x : ℕ) → ((k : ℕ) → k < n → get_or a k None ≡ None) → raised a n x ≡ x
 raised_none a zero x h = refl
 raised_none a (suc n) x h = ap (λ z. raised_by z (raised a n x)) (h n (omega arith)) ∙ raised_none a n x (λ k l. h k (omega (arith, l)))
-
-ended_as : (b : Bool) → has_ended_as (cond b Ended Going) ≡ b
-ended_as true = refl
-ended_as false = refl
-
-runs_as : (b : Bool) (o : Outcome) → o ≡ cond b Ended Going → (o ≡ Going) ⊎ (o ≡ Ended)
-runs_as true o h = inr h
-runs_as false o h = inl h
 
 -- the domain after its step
 pub record After (system : System) (d : ℕ) (new : DomainView) (after : ChannelsState) (ticked : DomainState) (replies : List (Option Joined)) (stamp : ℕ) : Type 0 where
@@ -169,8 +160,7 @@ after_step system d old new before after h x leaves =
       in_cells = record {
         of_system = x.of_system;
         of_domain = x.of_domain;
-        runs = runs_as x.ticked.ended new.outcome x.outcome;
-        mark = x.mark ∙ ap mark_of (sym (ap has_ended_as x.outcome ∙ ended_as x.ticked.ended));
+        runs = x.runs;
         lists = ap length x.joins ∙ len2 ∙ len1 ∙ lists;
         later = λ u l. newest_after u (omega (arith, l, count));
         stands = λ k l q. subst (λ z. IsSomeAnd (own_side (cell_in after) (end_at E k)) (IsWaitingOffer (end_at z k) new.stamp (state_of new).statement)) same_ends ((stand k l).stands q);

@@ -3,7 +3,7 @@ use Rattle.std.proofs.Common.{◌≡◌, ℕ, ◌+◌, ◌≤◌, List, [], ◌�
 use Rattle.std.proofs.lemmas.Bool.{cases_eq}
 use Rattle.cell_core.specs.declared.moves.Joined.{Joined}
 use Rattle.cell_core.specs.Ends.{EndCall, Through}
-use Rattle.domain_core.specs.EndCalls.{end_at}
+use Rattle.domain_core.specs.definitions.step.EndCalls.{end_at}
 use Rattle.gals_core.specs.Channels.{ChannelsState, Moves, history_in}
 use Rattle.gals_core.proofs.Effects.{new_rows}
 

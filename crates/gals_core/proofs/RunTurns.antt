@@ -1,5 +1,5 @@
 -- The turns of a run, from the first to the last.
-use Rattle.std.proofs.Common.{◌≡◌, ◌≢◌, ℕ, zero, suc, ◌*◌, ◌^◌, ◌<◌, ◌≤◌, ℤ, pos, Bool, true, false, cond, List, [], ◌∷◌, ◌++◌, length, get_or, None, refl, sym, ap, ◌∙◌, subst, inl, inr, arith}
+use Rattle.std.proofs.Common.{◌≡◌, ◌≢◌, ℕ, suc, ◌*◌, ◌^◌, ◌<◌, ◌≤◌, ℤ, true, false, List, [], ◌∷◌, ◌++◌, length, get_or, None, refl, sym, ap, ◌∙◌, subst, inl, inr, arith}
 use Rattle.std.specs.Prelude.{max, IsNone}
 use Rattle.std.proofs.Math.Path.{fun_ext}
 use Rattle.std.proofs.lemmas.List.{append-nil}
@@ -7,39 +7,44 @@ use Rattle.std.proofs.lemmas.Bool.{true≢false}
 use Rattle.kernel_terms.specs.declared.system.System.{System}
 use Rattle.kernel_terms.specs.Systems.{tables_of}
 use Rattle.tick_log.specs.declared.history.JoinRow.{JoinRow}
-use Rattle.tick_log.specs.Runs.{RunState, log_of, history_of, mark_of}
+use Rattle.tick_log.specs.definitions.Runs.{RunState, log_of, history_of}
 use Rattle.cell_core.specs.declared.moves.Side.{Side}
 use Rattle.cell_core.specs.declared.moves.Side.TheVariants.{Sender, Receiver}
 use Rattle.cell_core.specs.Cells.{CellState, standing_at, empty_cell, recall_reply}
 use Rattle.cell_core.specs.CellEnds.{standing_offer}
 use Rattle.cell_core.specs.Ends.{Through}
-use Rattle.domain_core.specs.declared.ends_of.EndOf.{EndOf}
-use Rattle.domain_core.specs.declared.ends_of.EndJoin.{EndJoin}
-use Rattle.domain_core.specs.declared.outcome.Outcome.TheVariants.{Ended}
-use Rattle.domain_core.specs.declared.outcome.Stepped.{Stepped}
-use Rattle.domain_core.specs.EndCalls.{end_at, recalls, offers}
-use Rattle.domain_core.specs.Domains.{DomainView, ends_of, ends_in, tables_in, tick_count_of, has_ended_as, state_of, state_with, source_of, register_at, receives, joins_at, latest, last_received}
-use Rattle.domain_core.specs.Steps.{Waits, WaitsAs, StandsAs, IsStep, add_joins, next_stamp, newest, newest_of}
-use Rattle.domain_core.specs.Systems.{IsFresh, start, start_of, domain_count}
-use Rattle.domain_core.specs.Scheduled.{IsScheduledRun}
-use Rattle.domain_core.proofs.StateAnswers.{with_none}
-use Rattle.domain_core.proofs.StampAnswers.{all_raised}
+use Rattle.domain_core.specs.declared.step.ends_of.EndOf.{EndOf}
+use Rattle.domain_core.specs.declared.step.ends_of.EndJoin.{EndJoin}
+use Rattle.domain_core.specs.declared.step.outcome.Stepped.{Stepped}
+use Rattle.domain_core.specs.definitions.step.EndCalls.{end_at, recalls, offers}
+use Rattle.domain_core.specs.definitions.step.Domains.{DomainView, ends_of, ends_in, tick_count_of, state_of, joins_at}
+use Rattle.domain_core.specs.definitions.step.Steps.{Waits, WaitsAs, StandsAs, IsStep, add_joins}
+use Rattle.domain_core.specs.step.Answers.{next_stamp, newest, newest_of}
+use Rattle.domain_core.specs.definitions.runs.Systems.{IsSystem, IsFresh, start, start_of, domain_count}
+use Rattle.domain_core.specs.definitions.runs.LegalRuns.{Fits}
+use Rattle.domain_core.specs.definitions.runs.Scheduled.{IsScheduledRun}
+use Rattle.domain_core.proofs.lemmas.step.StateAnswers.{with_none}
+use Rattle.domain_core.proofs.lemmas.step.StampAnswers.{stamp_is_next}
+use Rattle.domain_core.proofs.lemmas.runs.Turns.{scheduled_by_step}
+use Rattle.kernel_terms.specs.Marks.{is_over}
+use Rattle.kernel_rules.specs.definitions.LegalTick.{no_inputs}
+use Rattle.domain_core.proofs.lemmas.step.StampAnswers.{all_raised}
 use Rattle.gals_core.specs.Channels.{ChannelsState, Moves, cell_in, history_in}
-use Rattle.domain_core.specs.Compiling.{setup_of}
+use Rattle.gals_core.specs.Setups.{order_setup}
 use Rattle.gals_core.specs.Worlds.{own_side, pending, BeginsWith, StandsFor, IsNew}
-use Rattle.gals_core.proofs.DomainEnds.{apart}
-use Rattle.gals_core.proofs.Answered.{raised_same, answers_ended}
+use Rattle.domain_core.proofs.lemmas.step.StateJoins.{ends_apart}
+use Rattle.gals_core.proofs.Answered.{raised_same, answers_mark}
 use Rattle.gals_core.proofs.Effects.{split, all_recalled}
 use Rattle.gals_core.proofs.AtChannel.{pending_at, stands_so}
 use Rattle.gals_core.proofs.OwnStep.{OwnStep, own_step, ends_at, at_own, raised_none}
 use Rattle.gals_core.proofs.WholeTurn.{Begins, whole_turn}
 
 -- the turn of a domain that has ended
-pub skip_turn : (system : System) (turns rest : List ℕ) (d : ℕ) (view : ℕ → DomainView) (cell : ℕ → CellState) (rows : ℕ → List JoinRow) → d < domain_count (setup_of system) → (view d).outcome ≡ Ended →
+pub skip_turn : (system : System) (turns rest : List ℕ) (d : ℕ) (view : ℕ → DomainView) (cell : ℕ → CellState) (rows : ℕ → List JoinRow) → d < domain_count (order_setup system) → is_over (view d).log.mark ≡ true →
     StandsFor system turns (d ∷ rest) view cell rows → StandsFor system turns rest view cell rows
 skip_turn system turns rest d view cell rows within over w =
-    let ended : (w.s.domain d).ended ≡ true =
-    ap (λ z. z.ended) (w.state d within) ∙ answers_ended (ends_at system d) (pending cell (ends_at system d)) (length (ends_at system d)) (state_of (view d)) ∙ ap has_ended_as over in
+    let ended : is_over (w.s.domain d).mark ≡ true =
+    ap (λ z. is_over z.mark) (w.state d within) ∙ ap is_over (answers_mark (ends_at system d) (pending cell (ends_at system d)) (length (ends_at system d)) (state_of (view d))) ∙ over in
     let here : length (d ∷ rest) ≡ suc (length rest) = refl in
     record {
       s = w.s;
@@ -60,10 +65,10 @@ skip_turn system turns rest d view cell rows within over w =
     }
 
 -- the run after the last turn
-pub at_end : (system : System) (turns : List ℕ) (view : ℕ → DomainView) (cell : ℕ → CellState) (rows : ℕ → List JoinRow) (r : RunState) → (w : StandsFor system turns [] view cell rows) →
-    ((d : ℕ) → (log_of r d).entries ≡ (view d).log.entries) → ((d : ℕ) → (log_of r d).mark ≡ (view d).log.mark) → ((c : ℕ) → (history_of r c).rows ≡ rows c) →
-    IsScheduledRun (setup_of system) r turns w.s
-at_end system turns view cell rows r w entries marks histories =
+pub at_end : (system : System) (turns : List ℕ) (view : ℕ → DomainView) (cell : ℕ → CellState) (rows : ℕ → List JoinRow) (r : RunState) → (w : StandsFor system turns [] view cell rows) → Fits (order_setup system) r →
+    ((d : ℕ) → (log_of r d).entries ≡ (view d).log.entries) → ((d : ℕ) → (log_of r d).mark ≡ (view d).log.mark) → ((c : ℕ) → history_of r c ≡ rows c) →
+    IsScheduledRun (order_setup system) r turns w.s
+at_end system turns view cell rows r w fits entries marks histories =
     let begins : BeginsWith r (λ d. (view d).log.entries) rows = record {
       more_entries = λ d. [];
       more_rows = λ c. [];
@@ -71,11 +76,14 @@ at_end system turns view cell rows r w entries marks histories =
       histories = λ c. histories c ∙ sym (append-nil (rows c));
     } in
     w.goes_on.completes r [] w.s begins (refl, refl) ((λ d. w.goes_on.t_is d ∙ ap length (sym (entries d))), (λ c. w.goes_on.j_is c ∙ ap length (sym (histories c)))) tt
-    (λ d l. marks d ∙ (w.views d l).mark ∙ ap mark_of (sym (ap (λ z. z.ended) (w.state d l) ∙ answers_ended (ends_at system d) (pending cell (ends_at system d)) (length (ends_at system d)) (state_of (view d)))))
+    (record {
+      fits = fits;
+      marks = λ d l. marks d ∙ sym (ap (λ z. z.mark) (w.state d l) ∙ answers_mark (ends_at system d) (pending cell (ends_at system d)) (length (ends_at system d)) (state_of (view d)));
+    })
 
 -- no step of a turn finds its stamp past the limit
 module _ (system : System) (turns rest : List ℕ) (d : ℕ) (view new : ℕ → DomainView) (before after : ChannelsState) (begins : Begins system d view before) (own : before.ends ≡ ends_at system d)
-    (w : StandsFor system turns (d ∷ rest) view (cell_in before) (λ c. (history_in before c).rows)) (few : 2 * length turns ≤ 2 ^ 62) (result : Stepped) (i : IsStep Moves before after (view d) (new d) result) where
+    (w : StandsFor system turns (d ∷ rest) view (cell_in before) (λ c. (history_in before c).rows)) (few : 2 * length turns ≤ 2 ^ 62) (result : Stepped) (i : IsStep Moves no_inputs before after (view d) (new d) result) where
   stamp_low : i.stamp < 2 ^ 62
   stamp_low =
       let E = ends_at system d in
@@ -86,8 +94,8 @@ module _ (system : System) (turns rest : List ℕ) (d : ℕ) (view new : ℕ →
       Through Moves before
       (recalls (ends_of (tables_of y) x) (view d).standing i.answers (length (ends_of (tables_of y) x)) ++ offers (ends_of (tables_of y) x) i.asks i.stamp i.replies (length (ends_of (tables_of y) x))) after) i.through in
       let x = split Moves before (recalls E (view d).standing i.answers (length E)) (offers E i.asks i.stamp i.replies (length E)) after through in
-      let r = all_recalled E (view d).standing i.answers (length E) before x.middle (apart (tables_of system) d) (omega arith) own (stands_so system d (cell_in before) (view d) h) alone x.before in
-      let next = to (λ y x. i.stamp ≡ next_stamp (view d) (add_joins (tick_count_of (view d)) i.answers (length (ends_of (tables_of y) x)) (view d).joins)) i.next in
+      let r = all_recalled E (view d).standing i.answers (length E) before x.middle (ends_apart (tables_of system) d) (omega arith) own (stands_so system d (cell_in before) (view d) h) alone x.before in
+      let next = to (λ y x. i.stamp ≡ next_stamp (view d).stamp (tick_count_of (view d)) (add_joins (tick_count_of (view d)) i.answers (length (ends_of (tables_of y) x)) (view d).joins)) (stamp_is_next (view d).stamp (tick_count_of (view d)) (add_joins (tick_count_of (view d)) i.answers (length (ends_in (view d))) (view d).joins) i.stamp i.next) in
       let is : i.stamp ≡ suc (w.since d) =
       next
       ∙ ap suc (all_raised (tick_count_of (view d)) (view d).stamp i.answers (length E) (view d).joins (omega (arith, h.lists))
@@ -107,14 +115,6 @@ module _ (system : System) (turns rest : List ℕ) (d : ℕ) (view new : ℕ →
   turn_done others leaves = whole_turn system turns rest d view new before after begins w made others leaves
 
 -- a domain before its first tick
-new_last : (ends : List EndOf) (joins : List (List EndJoin)) (n c : ℕ) → ((k : ℕ) → joins_at joins k ≡ []) → last_received ends joins n c ≡ pos 0
-new_last ends joins zero c h = refl
-new_last ends joins (suc n) c h = by_test (receives (end_at ends n) c) (new_last ends joins n c h)
-  where
-    by_test : (b : Bool) → last_received ends joins n c ≡ pos 0 → cond b (latest (joins_at joins n) (pos 0)) (last_received ends joins n c) ≡ pos 0
-    by_test true i = ap (λ z. latest z (pos 0)) (h n)
-    by_test false i = i
-
 new_newest : (t : ℕ) (joins : List (List EndJoin)) → ((k : ℕ) → joins_at joins k ≡ []) → newest_of t joins ≡ 0
 new_newest t [] h = refl
 new_newest t (js ∷ jss) h = let a = ap (newest t) (h 0) in let i = new_newest t jss (λ k. h (suc k)) in omega (arith, a, i)
@@ -130,31 +130,21 @@ no_offer : (a : Side) → IsNone (standing_offer a (standing_at a empty_cell))
 no_offer Sender = refl
 no_offer Receiver = refl
 
-pub new_state : (system : System) (d : ℕ) (v : DomainView) → IsNew system d v → state_of v ≡ start_of (setup_of system) d
-new_state system d v h =
-    let S = source_of v.system v.domain in
-    let R = register_at v.registers in
-    let ended : has_ended_as v.outcome ≡ false = ap has_ended_as h.going in
-    let ticks : tick_count_of v ≡ 0 = ap length h.entries in
-    let last : last_received (ends_in v) v.joins (length (ends_in v)) ≡ (λ c. pos 0) = fun_ext (λ c. new_last (ends_in v) v.joins (length (ends_in v)) c h.joins) in
-    let source : S ≡ source_of system d = at_own v system d h.of_system h.of_domain (λ y x. S ≡ source_of y x) refl in
-    ap (state_with (tables_in v) S (ends_in v) R v.joins (tick_count_of v)) ended
-    ∙ ap (λ z. state_with (tables_in v) S (ends_in v) R v.joins z false) ticks
-    ∙ ap (λ z. record { statement = S; variables = λ x. pos 0; values = λ x. pos 0; last = z; ticks = 0; ended = false }) last
-    ∙ ap (λ z. record { statement = z; variables = λ x. pos 0; values = λ x. pos 0; last = λ x. pos 0; ticks = 0; ended = false }) source
+pub new_state : (system : System) (d : ℕ) (v : DomainView) → IsNew system d v → state_of v ≡ start_of (order_setup system) d
+new_state system d v h = h.state
 
-not_waiting : (system : System) (d : ℕ) (e : EndOf) (value : ℤ) → IsFresh (setup_of system) → Waits e value (start_of (setup_of system) d).statement → ⊥
+not_waiting : (system : System) (d : ℕ) (e : EndOf) (value : ℤ) → IsFresh (order_setup system) → Waits e value (start_of (order_setup system) d).statement → ⊥
 not_waiting system d e value fresh w = by_side e.side w
   where
-    by_side : (a : Side) → WaitsAs a e.channel value (start_of (setup_of system) d).statement → ⊥
+    by_side : (a : Side) → WaitsAs a e.channel value (start_of (order_setup system) d).statement → ⊥
     by_side Sender h = fresh.sends d e.channel value h
     by_side Receiver h = fresh.receives d e.channel h.0
 
-at_empty_cells : (system : System) (turns : List ℕ) (view : ℕ → DomainView) → IsFresh (setup_of system) → ((d : ℕ) → d < domain_count (setup_of system) → IsNew system d (view d)) → ((d : ℕ) → (view d).log.entries ≡ []) →
+at_empty_cells : (system : System) (turns : List ℕ) (view : ℕ → DomainView) → IsSystem (order_setup system) → IsFresh (order_setup system) → ((d : ℕ) → d < domain_count (order_setup system) → IsNew system d (view d)) → ((d : ℕ) → (view d).log.entries ≡ []) →
     StandsFor system turns turns view (λ c. empty_cell) (λ c. [])
-at_empty_cells system turns view fresh new entries =
+at_empty_cells system turns view sys fresh new entries =
     record {
-      s = start (setup_of system);
+      s = start (order_setup system);
       last = λ d. 0;
       since = λ d. 0;
       goes_on = record {
@@ -162,15 +152,14 @@ at_empty_cells system turns view fresh new entries =
         j = λ c. 0;
         t_is = λ d. sym (ap length (entries d));
         j_is = λ c. refl;
-        completes = λ r moves end b turned tells stamps marks. record { moves = moves; turned = turned; tells = tells; stamps = stamps; marks = marks };
+        completes = λ r moves end b turned tells stamps marks. scheduled_by_step (order_setup system) r turns moves end sys fresh marks.fits turned tells stamps marks.marks;
       };
       views = λ d l.
           let h = new d l in
           record {
             of_system = h.of_system;
             of_domain = h.of_domain;
-            runs = inl h.going;
-            mark = h.mark ∙ ap mark_of (sym (ap has_ended_as h.going));
+            runs = h.going;
             lists = h.lists;
             later = λ t m. new_newest t (view d).joins h.joins;
             stands = λ n m q. absurd (true≢false (sym q ∙ h.standing n));
@@ -191,8 +180,8 @@ at_empty_cells system turns view fresh new entries =
     }
 
 -- the domains before their first ticks, and cells at which no side stands
-pub at_start : (system : System) (turns : List ℕ) (view : ℕ → DomainView) (cell : ℕ → CellState) (rows : ℕ → List JoinRow) → IsFresh (setup_of system) →
-    ((d : ℕ) → d < domain_count (setup_of system) → IsNew system d (view d)) → ((d : ℕ) → (view d).log.entries ≡ []) → ((c : ℕ) → cell c ≡ empty_cell) → ((c : ℕ) → rows c ≡ []) →
+pub at_start : (system : System) (turns : List ℕ) (view : ℕ → DomainView) (cell : ℕ → CellState) (rows : ℕ → List JoinRow) → IsSystem (order_setup system) → IsFresh (order_setup system) →
+    ((d : ℕ) → d < domain_count (order_setup system) → IsNew system d (view d)) → ((d : ℕ) → (view d).log.entries ≡ []) → ((c : ℕ) → cell c ≡ empty_cell) → ((c : ℕ) → rows c ≡ []) →
     StandsFor system turns turns view cell rows
-at_start system turns view cell rows fresh new entries cells none =
-    subst (λ z. StandsFor system turns turns view z rows) (sym (fun_ext cells)) (subst (StandsFor system turns turns view (λ c. empty_cell)) (sym (fun_ext none)) (at_empty_cells system turns view fresh new entries))
+at_start system turns view cell rows sys fresh new entries cells none =
+    subst (λ z. StandsFor system turns turns view z rows) (sym (fun_ext cells)) (subst (StandsFor system turns turns view (λ c. empty_cell)) (sym (fun_ext none)) (at_empty_cells system turns view sys fresh new entries))

@@ -7,10 +7,10 @@ use Rattle.std.proofs.Math.Seq.{get_or-append_seam}
 use Rattle.kernel_terms.specs.declared.system.System.{System}
 use Rattle.kernel_terms.specs.Systems.{tables_of}
 use Rattle.kernel_terms.specs.TableEntries.{channel_at}
-use Rattle.kernel_rules.specs.Signals.{put_at}
-use Rattle.kernel_rules.specs.LegalTick.{DomainState}
+use Rattle.kernel_rules.specs.definitions.Signals.{put_at}
+use Rattle.kernel_rules.specs.definitions.LegalTick.{DomainState}
 use Rattle.tick_log.specs.declared.history.JoinRow.{JoinRow}
-use Rattle.tick_log.specs.Runs.{Entry, RunState, history_of, join_of, join_count}
+use Rattle.tick_log.specs.definitions.Runs.{Entry, RunState, history_of, join_of, join_count}
 use Rattle.cell_core.specs.declared.moves.Side.{Side}
 use Rattle.cell_core.specs.declared.moves.Side.TheVariants.{Sender, Receiver}
 use Rattle.cell_core.specs.declared.moves.Joined.{Joined}
@@ -18,18 +18,22 @@ use Rattle.cell_core.specs.declared.cell.Standing.TheVariants.{Open, Taken}
 use Rattle.cell_core.specs.Cells as cells
 use Rattle.cell_core.specs.Cells.{CellState, other, standing_at, sent_value}
 use Rattle.cell_core.specs.CellEnds.{standing_offer}
-use Rattle.domain_core.specs.EndCalls.{end_at}
-use Rattle.domain_core.specs.EndPlaces.{raised, raised_by}
-use Rattle.domain_core.specs.Domains.{DomainView, ends_of, state_of, tick_count_of}
-use Rattle.domain_core.specs.Steps.{Waits, WaitsAs, IsAsk, with_answers, end_done, side_done, join_stamp}
-use Rattle.domain_core.specs.Systems.{SystemState, JoinRecord, Move, MakesJoin, JoinStep, IsSystem, sender_of, receiver_of, domain_count, channel_count}
-use Rattle.domain_core.specs.LegalRuns.{record_of}
-use Rattle.domain_core.specs.Scheduled.{BothWait, JoinsInTurn, TakesTurns, TellsFrom, StampsFrom, IsScheduledRun, stamp_of_join}
-use Rattle.domain_core.proofs.Places.{put_here, put_apart, put_cases}
+use Rattle.domain_core.specs.definitions.step.EndCalls.{end_at}
+use Rattle.domain_core.specs.step.Answers.{raised, raised_by}
+use Rattle.domain_core.specs.definitions.step.Domains.{DomainView, ends_of, state_of, tick_count_of}
+use Rattle.domain_core.specs.definitions.step.Steps.{Waits, WaitsAs, IsAsk}
+use Rattle.domain_core.specs.definitions.runs.Stamps.{stamp_of_join}
+use Rattle.domain_core.specs.step.Answers.{with_answers, end_done, side_done}
+use Rattle.domain_core.specs.definitions.runs.Systems.{BothWait, SystemState, JoinRecord, Move, MakesJoin, JoinStep, IsSystem, sender_of, receiver_of, domain_count, channel_count}
+use Rattle.domain_core.specs.definitions.runs.LegalRuns.{record_of}
+use Rattle.domain_core.specs.definitions.runs.Scheduled.{JoinsInTurn, TakesTurns, TellsFrom, IsScheduledRun}
+use Rattle.domain_core.specs.runs.StampsByStep.{StampsFrom, stamp_by_step}
+use Rattle.domain_core.proofs.lemmas.runs.Places.{put_here, put_apart, put_cases}
 use Rattle.gals_core.specs.Channels.{ChannelsState, cell_in, history_in, ticks_in, link_at, row_in}
-use Rattle.domain_core.specs.Compiling.{setup_of}
-use Rattle.gals_core.specs.Worlds.{domain_at, IsInCells, own_side, found_state, found_stamp, BeginsWith, HasMarks}
-use Rattle.gals_core.proofs.DomainEnds.{is_end, domain_is, rises}
+use Rattle.gals_core.specs.Setups.{order_setup}
+use Rattle.gals_core.specs.Worlds.{domain_at, IsInCells, own_side, found_state, found_stamp, BeginsWith, EndsIn}
+use Rattle.domain_core.proofs.lemmas.step.OwnEnds.{own_end, rises}
+use Rattle.gals_core.proofs.OwnDomains.{domain_is}
 use Rattle.gals_core.proofs.Answered.{still_waits, answers_ticks}
 use Rattle.gals_core.proofs.Effects.{Offered}
 use Rattle.gals_core.proofs.AtChannel.{Meets}
@@ -37,11 +41,11 @@ use Rattle.gals_core.proofs.Facing.{is_domain, across, two_sides, found_same, in
 
 -- the turn of a domain after its tick: what its offers did
 pub record TurnOf (system : System) (d : ℕ) (view : ℕ → DomainView) (old new : ChannelsState) (after : DomainState) (asks : List (Option ℤ)) (replies : List (Option Joined)) (stamp : ℕ) : Type 0 where
-  pub within : d < domain_count (setup_of system)
-  pub sys : IsSystem (setup_of system)
-  pub links : (c : ℕ) → c < channel_count (setup_of system) → ((link_at old.links c).sender ≡ (channel_at (tables_of system) c).sender) × ((link_at old.links c).receiver ≡ (channel_at (tables_of system) c).receiver)
+  pub within : d < domain_count (order_setup system)
+  pub sys : IsSystem (order_setup system)
+  pub links : (c : ℕ) → c < channel_count (order_setup system) → ((link_at old.links c).sender ≡ (channel_at (tables_of system) c).sender) × ((link_at old.links c).receiver ≡ (channel_at (tables_of system) c).receiver)
   pub my_ticks : ticks_in old d ≡ after.ticks
-  pub their_ticks : (e : ℕ) → e < domain_count (setup_of system) → e ≢ d → ticks_in old e ≡ tick_count_of (view e)
+  pub their_ticks : (e : ℕ) → e < domain_count (order_setup system) → e ≢ d → ticks_in old e ≡ tick_count_of (view e)
   pub offered : Offered (ends_of (tables_of system) d) asks stamp replies (length (ends_of (tables_of system) d)) old new
   pub asked : (n : ℕ) → n < length (ends_of (tables_of system) d) → IsAsk (end_at (ends_of (tables_of system) d) n) after.statement (get_or asks n None)
 
@@ -54,7 +58,7 @@ pub record Stage (system : System) (turns rest : List ℕ) (d : ℕ) (view : ℕ
   pub since : ℕ → ℕ
   pub cell : ℕ → CellState
   pub rows : ℕ → List JoinRow
-  pub sum : c + left ≡ channel_count (setup_of system)
+  pub sum : c + left ≡ channel_count (order_setup system)
   pub ends_within : n ≤ length (ends_of (tables_of system) d)
   pub before : (k : ℕ) → k < n → (end_at (ends_of (tables_of system) d) k).channel < c
   pub beyond : (k : ℕ) → n ≤ k → k < length (ends_of (tables_of system) d) → c ≤ (end_at (ends_of (tables_of system) d) k).channel
@@ -62,20 +66,20 @@ pub record Stage (system : System) (turns rest : List ℕ) (d : ℕ) (view : ℕ
   pub cells_left : (k : ℕ) → c ≤ k → cell k ≡ cell_in old k
   pub rows_done : (k : ℕ) → k < c → rows k ≡ (history_in new k).rows
   pub rows_left : (k : ℕ) → c ≤ k → rows k ≡ (history_in old k).rows
-  pub others : (e : ℕ) → e < domain_count (setup_of system) → e ≢ d → IsInCells system e cell (view e)
+  pub others : (e : ℕ) → e < domain_count (order_setup system) → e ≢ d → IsInCells system e cell (view e)
   pub mine : s.domain d ≡ with_answers (ends_of (tables_of system) d) replies n after
-  pub theirs : (e : ℕ) → e < domain_count (setup_of system) → e ≢ d → s.domain e ≡ found_state system e cell (view e)
+  pub theirs : (e : ℕ) → e < domain_count (order_setup system) → e ≢ d → s.domain e ≡ found_state system e cell (view e)
   pub t_is : (e : ℕ) → t e ≡ length (entries e)
   pub j_is : (k : ℕ) → j k ≡ length (rows k)
   pub last_mine : last d ≡ stamp
-  pub last_theirs : (e : ℕ) → e < domain_count (setup_of system) → e ≢ d → last e ≡ (view e).stamp
+  pub last_theirs : (e : ℕ) → e < domain_count (order_setup system) → e ≢ d → last e ≡ (view e).stamp
   pub since_mine : since d ≡ raised replies n stamp
-  pub since_theirs : (e : ℕ) → e < domain_count (setup_of system) → e ≢ d → since e ≡ found_stamp system e cell (view e)
-  pub low_last : (e : ℕ) → e < domain_count (setup_of system) → last e ≤ suc top
-  pub low_since : (e : ℕ) → e < domain_count (setup_of system) → since e ≤ suc (suc top)
-  pub completes : (r : RunState) (joins : List Move) (mid : SystemState) (moves : List Move) (end : SystemState) → BeginsWith r entries rows → JoinsInTurn (setup_of system) d c left s joins mid →
-      TakesTurns (setup_of system) mid rest moves end → TellsFrom r t j (joins ++ moves) → StampsFrom (setup_of system) r t j last since (joins ++ moves) → HasMarks (setup_of system) r end →
-      IsScheduledRun (setup_of system) r turns end
+  pub since_theirs : (e : ℕ) → e < domain_count (order_setup system) → e ≢ d → since e ≡ found_stamp system e cell (view e)
+  pub low_last : (e : ℕ) → e < domain_count (order_setup system) → last e ≤ suc top
+  pub low_since : (e : ℕ) → e < domain_count (order_setup system) → since e ≤ suc (suc top)
+  pub completes : (r : RunState) (joins : List Move) (mid : SystemState) (moves : List Move) (end : SystemState) → BeginsWith r entries rows → JoinsInTurn (order_setup system) d c left s joins mid →
+      TakesTurns (order_setup system) mid rest moves end → TellsFrom r t j (joins ++ moves) → StampsFrom (order_setup system) r t j last since (joins ++ moves) → EndsIn (order_setup system) r end →
+      IsScheduledRun (order_setup system) r turns end
 
 -- where the rows are the same
 pub begins_same : (r : RunState) (entries : ℕ → List Entry) (rows new : ℕ → List JoinRow) → ((c : ℕ) → new c ≡ rows c) → BeginsWith r entries new → BeginsWith r entries rows
@@ -94,7 +98,7 @@ begins_fewer r entries rows c row b = record {
   logs = b.logs;
   histories = λ k. elim (put_cases rows c (rows c ++ row ∷ []) k) [
     | inl (e, q) ↦
-        let P : ℕ → Type 0 = λ z. (history_of r z).rows ≡ rows z ++ put_at b.more_rows c (row ∷ b.more_rows c) z in
+        let P : ℕ → Type 0 = λ z. history_of r z ≡ rows z ++ put_at b.more_rows c (row ∷ b.more_rows c) z in
         subst P (sym e)
         (b.histories c ∙ ap (λ z. z ++ b.more_rows c) (put_here rows c (rows c ++ row ∷ [])) ∙ append_assoc (rows c) (row ∷ []) (b.more_rows c)
         ∙ ap (λ z. rows c ++ z) (sym (put_here b.more_rows c (row ∷ b.more_rows c))))
@@ -109,14 +113,14 @@ record NextRow (r : RunState) (c n : ℕ) (row : JoinRow) : Type 0 where
 
 next_row : (r : RunState) (entries : ℕ → List Entry) (rows : ℕ → List JoinRow) (c n : ℕ) (row : JoinRow) → BeginsWith r entries (put_at rows c (rows c ++ row ∷ [])) → n ≡ length (rows c) → NextRow r c n row
 next_row r entries rows c n row b q =
-    let all : (history_of r c).rows ≡ rows c ++ row ∷ b.more_rows c =
+    let all : history_of r c ≡ rows c ++ row ∷ b.more_rows c =
     b.histories c ∙ ap (λ z. z ++ b.more_rows c) (put_here rows c (rows c ++ row ∷ [])) ∙ append_assoc (rows c) (row ∷ []) (b.more_rows c) in
     let count = ap length all ∙ length-append (rows c) (row ∷ b.more_rows c) in
     let none : JoinRow = record { value = pos 0; sender_ticks = 0; receiver_ticks = 0; stamp = 0 } in
     record {
       stands = omega (arith, count, q);
       is =
-          ap (λ z. slice_index_or (history_of r c).rows z none) q
+          ap (λ z. slice_index_or (history_of r c) z none) q
           ∙ ap (λ z. slice_index_or z (length (rows c)) none) all
           ∙ get_or-append_seam (rows c) row (b.more_rows c) none;
     }
@@ -138,14 +142,14 @@ module _ (system : System) (turns rest : List ℕ) (d : ℕ) (view : ℕ → Dom
       ((k : ℕ) → k < m → (end_at (ends_of (tables_of system) d) k).channel < suc c) → ((k : ℕ) → m ≤ k → k < length (ends_of (tables_of system) d) → suc c ≤ (end_at (ends_of (tables_of system) d) k).channel) →
       (with_answers (ends_of (tables_of system) d) replies m after ≡ with_answers (ends_of (tables_of system) d) replies n after) → (raised replies m stamp ≡ raised replies n stamp) →
       ((b : Side) → domain_at (tables_of system) b c ≢ d → standing_at b (cell_in new c) ≡ standing_at b (cell_in old c)) → ((history_in new c).rows ≡ (history_in old c).rows) →
-      (((sender_of (setup_of system) c ≡ d) ⊎ (receiver_of (setup_of system) c ≡ d)) → (v : ℤ) → BothWait (setup_of system) x.s c v → ⊥) → At (suc c) m left
+      (((sender_of (order_setup system) c ≡ d) ⊎ (receiver_of (order_setup system) c ≡ d)) → (v : ℤ) → BothWait (order_setup system) x.s c v → ⊥) → At (suc c) m left
   skip c n m left x more within below above same_state same_stamp same_side same_rows idle =
       let cell' = put_at x.cell c (cell_in new c) in
       let rows' = put_at x.rows c ((history_in new c).rows) in
       let kept : (e : ℕ) → e ≢ d → (k : ℕ) → k < length (ends_of (tables_of system) e) →
       standing_at (end_at (ends_of (tables_of system) e) k).side (cell' (end_at (ends_of (tables_of system) e) k).channel) ≡ standing_at (end_at (ends_of (tables_of system) e) k).side (x.cell (end_at (ends_of (tables_of system) e) k).channel) = λ e ne k l.
       let f = end_at (ends_of (tables_of system) e) k in
-      let own = domain_is (tables_of system) e f (is_end (tables_of system) e k l) in
+      let own = domain_is (tables_of system) e f (own_end (tables_of system) e k l) in
       elim (put_cases x.cell c (cell_in new c) f.channel) [
         | inl (q, u) ↦
             ap (standing_at f.side) u
@@ -192,13 +196,13 @@ module _ (system : System) (turns rest : List ℕ) (d : ℕ) (view : ℕ → Dom
       Meets (end_at (ends_of (tables_of system) d) n) (get_or asks n None) stamp old new (get_or replies n None) → At (suc c) (suc n) left
   join c n left x less at h =
       let ends = ends_of (tables_of system) d in
-      let p = setup_of system in
+      let p = order_setup system in
       let tables = tables_of system in
       let e = end_at ends n in
       let a = e.side in
       let b = other a in
       let in_range : c < channel_count p = omega (arith, x.sum) in
-      let own : domain_at tables a c ≡ d = ap (domain_at tables a) (sym at) ∙ domain_is tables d e (is_end tables d n less) in
+      let own : domain_at tables a c ≡ d = ap (domain_at tables a) (sym at) ∙ domain_is tables d e (own_end tables d n less) in
       let o = domain_at tables b c in
       let o_within : o < domain_count p = is_domain system c turn.sys in_range b in
       let o_other : o ≢ d = λ q. across system c turn.sys in_range a (q ∙ sym own) in
@@ -237,9 +241,9 @@ module _ (system : System) (turns rest : List ℕ) (d : ℕ) (view : ℕ → Dom
         receiver_ticks = ap (ticks_in old) (turn.links c in_range).1 ∙ ticks_of (receiver_of p c) (turn.sys.receiver c in_range);
         next = refl;
       } in
-      let stamp_is : stamp_of_join p x.last c ≡ join_stamp j1 =
+      let stamp_is : stamp_by_step p x.last c ≡ stamp_of_join j1 =
       join_stamps system c a x.last stamp h.their_stamp (ap x.last own ∙ x.last_mine) (x.last_theirs o o_within o_other ∙ sym f.stamp) in
-      let js = stamp_of_join p x.last c in
+      let js = stamp_by_step p x.last c in
       let since' = raised_two p c js x.since in
       let mine_done : s'.domain d ≡ with_answers ends replies (suc n) after =
       subst (λ z. s'.domain z ≡ side_done a c v (x.s.domain z)) own (joined_side system c v x.s.domain turn.sys in_range a)
@@ -260,8 +264,8 @@ module _ (system : System) (turns rest : List ℕ) (d : ℕ) (view : ℕ → Dom
       let g = end_at (ends_of tables k) i in
       ap (standing_at g.side)
       (put_apart x.cell c (cell_in new c) g.channel
-      (λ q. apart_from k nd nq g.side (sym (domain_is tables k g (is_end tables k i l)) ∙ ap (domain_at tables g.side) q))) in
-      let stamps_equal : js ≡ join_stamp j2 = omega (arith, stamp_is) in
+      (λ q. apart_from k nd nq g.side (sym (domain_is tables k g (own_end tables k i l)) ∙ ap (domain_at tables g.side) q))) in
+      let stamps_equal : js ≡ stamp_of_join j2 = omega (arith, stamp_is) in
       record {
         s = s';
         t = x.t;
@@ -284,7 +288,7 @@ module _ (system : System) (turns rest : List ℕ) (d : ℕ) (view : ℕ → Dom
               (λ i li. let g = end_at (ends_of tables k) i in elim (put_cases x.cell c (cell_in new c) g.channel) [
                 | inl (u, w) ↦
                     let g_side : g.side ≡ b = elim (two_sides a g.side) [
-                      | inl z ↦ absurd (nd (sym (domain_is tables k g (is_end tables k i li)) ∙ ap (domain_at tables g.side) u ∙ ap (λ y. domain_at tables y c) z ∙ own))
+                      | inl z ↦ absurd (nd (sym (domain_is tables k g (own_end tables k i li)) ∙ ap (domain_at tables g.side) u ∙ ap (λ y. domain_at tables y c) z ∙ own))
                       | inr z ↦ z
                     ] in
                     ap (λ y. standing_offer y (standing_at y (cell' g.channel))) g_side
@@ -346,6 +350,6 @@ module _ (system : System) (turns rest : List ℕ) (d : ℕ) (view : ℕ → Dom
             (next.stands, ap record_of next.is, tells) (ap (λ z. z.stamp) next.is ∙ sym stamp_is, stamps) marks;
       }
     where
-      owner : (a : Side) → domain_at (tables_of system) a c ≡ d → (sender_of (setup_of system) c ≡ d) ⊎ (receiver_of (setup_of system) c ≡ d)
+      owner : (a : Side) → domain_at (tables_of system) a c ≡ d → (sender_of (order_setup system) c ≡ d) ⊎ (receiver_of (order_setup system) c ≡ d)
       owner Sender q = inl q
       owner Receiver q = inr q

@@ -2,28 +2,32 @@
 use Rattle.std.proofs.Common.{◌≡◌, ℕ, zero, suc, ◌+◌, ◌*◌, ◌^◌, ◌<◌, ◌≤◌, false, List, [], ◌∷◌, length, get_or, map, refl, sym, ap, ◌∙◌, subst, inl, inr, arith}
 use Rattle.std.specs.Prelude.{◌==◌, All, Vec, vec_capacity}
 use Rattle.std.specs.Global.{Global}
-use Rattle.std.proofs.lemmas.Bool.{cases_eq, cases_lt, eq-eqb, ne_eqb, cond-true, cond-false}
+use Rattle.std.proofs.lemmas.Bool.{cases_eq, cases_lt, eq-eqb, ne_eqb, cond-true, cond-false, true≢false}
 use Rattle.std.proofs.Math.Nat.{le-max_right}
 use Rattle.std.proofs.lemmas.List.{length-map, length-replicate, get_or-map, get_or_default, get_or_past}
 use Rattle.kernel_terms.specs.declared.system.System.{System}
 use Rattle.kernel_terms.specs.declared.tables.ChannelInfo.{ChannelInfo}
+use Rattle.kernel_terms.specs.Marks.{is_over}
 use Rattle.kernel_terms.specs.Systems.{tables_of, domains_of}
 use Rattle.kernel_terms.specs.TableEntries.{channel_at, no_channel}
-use Rattle.tick_log.specs.Runs.{LogState, HistoryState}
-use Rattle.tick_log.specs.RunText.{interface_signals}
-use Rattle.tick_log.specs.Fits.{IsEntry, IsRow, most_ticks}
+use Rattle.tick_log.specs.definitions.Containers.{LogState, HistoryState}
+use Rattle.tick_log.specs.definitions.RunText.{interface_signals}
+use Rattle.tick_log.specs.definitions.Fits.{IsEntry, IsRow, most_ticks}
 use Rattle.cell_core.specs.Cells.{empty_cell}
-use Rattle.domain_core.specs.Domains.{DomainView, ends_of, joins_at, tick_count_of}
-use Rattle.domain_core.specs.Compiling.{setup_of}
-use Rattle.domain_core.specs.Systems.{domain_count}
-use Rattle.domain_core.specs.Scheduled.{turns_of}
-use Rattle.domain_core.proofs.WellFormedSystems.{system_is_fresh, system_joins, few_domains}
+use Rattle.domain_core.specs.definitions.step.Domains.{DomainView, ends_of, joins_at, tick_count_of, state_of}
+use Rattle.kernel_rules.specs.definitions.LegalTick.{no_inputs}
+use Rattle.gals_core.specs.Setups.{order_setup}
+use Rattle.domain_core.specs.definitions.runs.Systems.{domain_count}
+use Rattle.domain_core.specs.definitions.runs.Scheduled.{turns_of}
+use Rattle.domain_core.proofs.lemmas.runs.WellFormedSystems.{system_is_fresh, system_joins, few_domains}
 use Rattle.gals_core.specs.declared.links.Link.{Link}
 use Rattle.gals_core.specs.Channels.{ChannelsState, cell_in, history_in, link_at, no_history}
 use Rattle.gals_core.specs.Worlds.{IsNew}
-use Rattle.gals_core.specs.OrderRuns.{IsBetweenTurns, FitSoFar, view_at, no_domain}
+use Rattle.gals_core.specs.BetweenTurns.{IsBetweenTurns, FitSoFar}
+use Rattle.gals_core.specs.definitions.OrderPlans.{view_at, no_domain}
 use Rattle.gals_core.specs.Opening.{AreOpened, Reserves, link_of, opened_history}
-use Rattle.gals_core.specs.OrderPlans.{AreDomainsOf, AreBudgets, IsReady, IsReserved, FitBudgets}
+use Rattle.gals_core.specs.definitions.OrderPlans.{AreDomainsOf, AreBudgets, FitBudgets}
+use Rattle.gals_core.specs.Plans.{IsReady, IsReserved}
 use Rattle.gals_core.proofs.OwnStep.{at_own}
 use Rattle.gals_core.proofs.RunTurns.{at_start}
 use Rattle.gals_core.proofs.Opened.{link_is, all_same, domain_total}
@@ -78,13 +82,14 @@ is_new system d ticks v h =
     record {
       of_system = ap (λ z. z.system) h.is ∙ k.of_system;
       of_domain = ap (λ z. z.domain) h.is ∙ k.number;
-      going = ap (λ z. z.outcome) h.is ∙ k.outcome;
+      going = ap (λ z. z.stopped) h.is ∙ k.going;
       entries = ap (λ z. z.log.entries) h.is ∙ ap (λ l. l.entries) k.log;
       mark = ap (λ z. z.log.mark) h.is ∙ ap (λ l. l.mark) k.log;
       stamp = ap (λ z. z.stamp) h.is ∙ k.stamp;
       lists = ap (λ z. length z.joins) h.is ∙ at_own h.first system d k.of_system k.number (λ y x. length h.first.joins ≡ length (ends_of (tables_of y) x)) k.lists;
       joins = λ n. ap (λ z. joins_at z.joins n) h.is ∙ k.joins n;
       standing = λ n. ap (λ z. get_or z.standing n false) h.is ∙ k.standing n;
+      state = ap state_of h.is ∙ k.state no_inputs;
     }
 
 -- no compiled domain has made a tick
@@ -117,7 +122,7 @@ module _ (system : System) (ticks turns : List ℕ) (views : List DomainView) (b
   abbrev infos : List ChannelInfo
   infos = (tables_of system).channels
 
-  in_views : (d : ℕ) → d < domain_count (setup_of system) → d < length views
+  in_views : (d : ℕ) → d < domain_count (order_setup system) → d < length views
   in_views d less = omega (arith, less, domain_total system, ready.count)
 
   few : 2 * length turns < 2 ^ 62
@@ -158,12 +163,15 @@ module _ (system : System) (ticks turns : List ℕ) (views : List DomainView) (b
   fits = record {
     signals = λ d less. let h = ready.domains d (in_views d less) in ap (λ z. z.log.signals) h.is ∙ ap (λ z. z.signals) h.compiled.log;
     entries = λ d less. no_entries_fit (IsEntry (interface_signals (tables_of system) d)) (view_at system views d).log.entries (no_entries d);
+    marks = λ d less over.
+        let h = ready.domains d (in_views d less) in
+        absurd (true≢false (sym over ∙ ap is_over (ap (λ z. z.log.mark) h.is ∙ ap (λ z. z.mark) h.compiled.log)));
     rows = λ c less. no_entries_fit (IsRow (channel_at (tables_of system) c).kind) (history_in b c).rows (no_rows c);
   }
 
   pub starts : IsBetweenTurns system turns turns views b
   starts = record {
-    is_system = system_joins system;
+    is_system = system_joins system no_inputs;
     few = few;
     domains = ready.count ∙ sym (domain_total system);
     turns_within = λ i less. omega (arith, fit.within i less, ready.budgets.count, domain_total system);
@@ -179,7 +187,7 @@ module _ (system : System) (ticks turns : List ℕ) (views : List DomainView) (b
         let room = ap (λ (z : HistoryState). z.room) (history_here c less) in
         omega (arith, room, fit.few (channel_at (tables_of system) c).sender, fit.few (channel_at (tables_of system) c).receiver);
     stands =
-        at_start system turns (view_at system views) (cell_in b) (λ c. (history_in b c).rows) (system_is_fresh system)
+        at_start system turns (view_at system views) (cell_in b) (λ c. (history_in b c).rows) (system_joins system no_inputs) (system_is_fresh system no_inputs)
         (λ d less. is_new system d (get_or ticks d 0) (view_at system views d) (ready.domains d (in_views d less))) no_entries
         (λ c. ap (λ z. get_or z c empty_cell) ready.channels.cells ∙ all_same (length infos) c empty_cell) no_rows;
     fits = fits;

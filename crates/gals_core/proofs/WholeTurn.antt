@@ -4,28 +4,31 @@ use Rattle.std.specs.Prelude.{max, slice_index_or}
 use Rattle.std.proofs.lemmas.Bool.{cases_eq, cases_lt}
 use Rattle.std.proofs.lemmas.List.{length-append, append_assoc}
 use Rattle.std.proofs.Math.Seq.{get_or-append_seam}
+use Rattle.kernel_rules.specs.definitions.LegalTick.{no_inputs}
 use Rattle.kernel_terms.specs.declared.system.System.{System}
 use Rattle.kernel_terms.specs.Systems.{tables_of}
 use Rattle.kernel_terms.specs.TableEntries.{channel_at}
-use Rattle.kernel_rules.specs.Signals.{put_at}
-use Rattle.kernel_rules.specs.LegalTick.{IsLegalTick}
+use Rattle.kernel_rules.specs.definitions.Signals.{put_at}
+use Rattle.kernel_rules.specs.definitions.LegalTick.{IsLegalTick}
 use Rattle.tick_log.specs.declared.history.JoinRow.{JoinRow}
-use Rattle.tick_log.specs.Runs.{Entry, RunState, log_of, tick_of, tick_count}
+use Rattle.tick_log.specs.definitions.Runs.{Entry, RunState, log_of, tick_of, tick_count}
 use Rattle.cell_core.specs.declared.moves.Joined.{Joined}
 use Rattle.cell_core.specs.declared.cell.Standing.TheVariants.{Empty}
 use Rattle.cell_core.specs.Cells.{CellState, other, standing_at}
 use Rattle.cell_core.specs.CellEnds.{standing_offer}
-use Rattle.domain_core.specs.EndCalls.{end_at}
-use Rattle.domain_core.specs.EndPlaces.{raised, raised_by}
-use Rattle.domain_core.specs.Domains.{DomainView, ends_in, tick_count_of, state_of}
-use Rattle.domain_core.specs.Steps.{StandsAs, with_answers, newest_of}
-use Rattle.domain_core.specs.Systems.{SystemState, MakesTick, TickStep, IsSystem, domain_count, channel_count}
-use Rattle.domain_core.proofs.Places.{put_here, put_apart, put_cases}
-use Rattle.domain_core.proofs.StampAnswers.{all_raised}
+use Rattle.domain_core.specs.definitions.step.EndCalls.{end_at}
+use Rattle.domain_core.specs.step.Answers.{raised, raised_by}
+use Rattle.domain_core.specs.definitions.step.Domains.{DomainView, ends_in, tick_count_of, state_of}
+use Rattle.domain_core.specs.definitions.step.Steps.{StandsAs}
+use Rattle.domain_core.specs.step.Answers.{with_answers, newest_of}
+use Rattle.domain_core.specs.definitions.runs.Systems.{SystemState, MakesTick, TickStep, IsSystem, domain_count, channel_count}
+use Rattle.domain_core.proofs.lemmas.runs.Places.{put_here, put_apart, put_cases}
+use Rattle.domain_core.proofs.lemmas.step.StampAnswers.{all_raised}
 use Rattle.gals_core.specs.Channels.{ChannelsState, cell_in, history_in, ticks_in, link_at}
-use Rattle.domain_core.specs.Compiling.{setup_of}
+use Rattle.gals_core.specs.Setups.{order_setup}
 use Rattle.gals_core.specs.Worlds.{domain_at, IsInCells, own_side, pending, found_state, found_stamp, BeginsWith, StandsFor}
-use Rattle.gals_core.proofs.DomainEnds.{is_end, domain_is}
+use Rattle.domain_core.proofs.lemmas.step.OwnEnds.{own_end}
+use Rattle.gals_core.proofs.OwnDomains.{domain_is}
 use Rattle.gals_core.proofs.Answered.{answers_same, raised_same, answers_ticks}
 use Rattle.gals_core.proofs.Effects.{Recalled}
 use Rattle.gals_core.proofs.AtChannel.{other_of, pending_at}
@@ -95,8 +98,8 @@ recalled_kept system d e answers before middle ne r i less =
           let p = r.passed k.0 k.1 in
           let side_is : g.side ≡ other f.side = elim (two_sides f.side g.side) [
             | inl q ↦
-                absurd (ne (sym (domain_is (tables_of system) e g (is_end (tables_of system) e i less)) ∙ ap (λ z. domain_at (tables_of system) z g.channel) q ∙ ap (domain_at (tables_of system) f.side) (sym k.2)
-                ∙ domain_is (tables_of system) d f (is_end (tables_of system) d k.0 k.1)))
+                absurd (ne (sym (domain_is (tables_of system) e g (own_end (tables_of system) e i less)) ∙ ap (λ z. domain_at (tables_of system) z g.channel) q ∙ ap (domain_at (tables_of system) f.side) (sym k.2)
+                ∙ domain_is (tables_of system) d f (own_end (tables_of system) d k.0 k.1)))
             | inr q ↦ q
           ] in
           ap (λ z. standing_at z (cell_in middle g.channel)) side_is
@@ -121,11 +124,11 @@ recalled_kept system d e answers before middle ne r i less =
 
 -- the cells and histories with which a domain begins its turn
 pub record Begins (system : System) (d : ℕ) (view : ℕ → DomainView) (b : ChannelsState) : Type 0 where
-  pub within : d < domain_count (setup_of system)
-  pub sys : IsSystem (setup_of system)
-  pub links : (c : ℕ) → c < channel_count (setup_of system) → ((link_at b.links c).sender ≡ (channel_at (tables_of system) c).sender) × ((link_at b.links c).receiver ≡ (channel_at (tables_of system) c).receiver)
+  pub within : d < domain_count (order_setup system)
+  pub sys : IsSystem (order_setup system)
+  pub links : (c : ℕ) → c < channel_count (order_setup system) → ((link_at b.links c).sender ≡ (channel_at (tables_of system) c).sender) × ((link_at b.links c).receiver ≡ (channel_at (tables_of system) c).receiver)
   pub my_ticks : ticks_in b d ≡ suc (tick_count_of (view d))
-  pub their_ticks : (e : ℕ) → e < domain_count (setup_of system) → e ≢ d → ticks_in b e ≡ tick_count_of (view e)
+  pub their_ticks : (e : ℕ) → e < domain_count (order_setup system) → e ≢ d → ticks_in b e ≡ tick_count_of (view e)
 
 module _ (system : System) (turns rest : List ℕ) (d : ℕ) (view new : ℕ → DomainView) (before after : ChannelsState) (begins : Begins system d view before)
     (w : StandsFor system turns (d ∷ rest) view (cell_in before) (λ c. (history_in before c).rows)) (x : OwnStep system d (view d) (new d) before after) (others : (e : ℕ) → e ≢ d → new e ≡ view e) where
@@ -171,9 +174,9 @@ module _ (system : System) (turns rest : List ℕ) (d : ℕ) (view new : ℕ →
   abbrev ticked : SystemState
   ticked = record { domain = put_at w.s.domain d x.ticked; joins = w.s.joins }
 
-  first : Stage system turns rest d new x.middle after x.ticked x.replies x.stamp entries top 0 0 (channel_count (setup_of system))
+  first : Stage system turns rest d new x.middle after x.ticked x.replies x.stamp entries top 0 0 (channel_count (order_setup system))
   first =
-      let p = setup_of system in
+      let p = order_setup system in
       let g = w.goes_on in
       let old_entries : ℕ → List Entry = λ e. (view e).log.entries in
       let old_rows : ℕ → List JoinRow = λ c. (history_in before c).rows in
@@ -181,7 +184,7 @@ module _ (system : System) (turns rest : List ℕ) (d : ℕ) (view new : ℕ →
       let entry : Entry = record { stamp = x.stamp; statuses = x.statuses } in
       let step : TickStep p w.s d x.statuses ticked = record {
         after = x.ticked;
-        legal = subst (λ z. IsLegalTick (tables_of system) (λ s n. None) d z x.statuses x.ticked) (sym from_state) x.legal;
+        legal = subst (λ z. IsLegalTick (tables_of system) no_inputs d z x.statuses x.ticked) (sym from_state) x.legal;
         next = refl;
       } in
       let here : length (d ∷ rest) ≡ suc (length rest) = refl in
@@ -240,22 +243,22 @@ module _ (system : System) (turns rest : List ℕ) (d : ℕ) (view new : ℕ →
   pub whole_turn : ((n : ℕ) → n < length (ends_in (new d)) → StandsAs (new d) n (own_side (cell_in after) (end_at (ends_in (new d)) n))) →
       StandsFor system turns rest new (cell_in after) (λ c. (history_in after c).rows)
   whole_turn leaves =
-      let p = setup_of system in
+      let p = order_setup system in
       let E = ends_at system d in
       let y = all_stages system turns rest d new x.middle after x.ticked x.asks x.replies x.stamp entries top turn (channel_count p) 0 0 first in
       let n = y.0 in
       let z = y.1 in
       let a = after_step system d (view d) (new d) before after (w.views d begins.within) x leaves in
       let over : n ≡ length E = elim (cases_lt n (length E)) [
-        | inl l ↦ absurd (omega (arith, z.beyond n (omega arith) l, (is_end (tables_of system) d n l).channel))
+        | inl l ↦ absurd (omega (arith, z.beyond n (omega arith) l, (own_end (tables_of system) d n l).channel))
         | inr l ↦ omega (arith, l, z.ends_within)
       ] in
       let cells_same : (e : ℕ) → (i : ℕ) → i < length (ends_at system e) → z.cell (end_at (ends_at system e) i).channel ≡ cell_in after (end_at (ends_at system e) i).channel = λ e i l.
-      z.cells_done (end_at (ends_at system e) i).channel (omega (arith, (is_end (tables_of system) e i l).channel)) in
+      z.cells_done (end_at (ends_at system e) i).channel (omega (arith, (own_end (tables_of system) e i l).channel)) in
       let rows_same : (c : ℕ) → (history_in after c).rows ≡ z.rows c = λ c. elim (cases_lt c (channel_count p)) [
         | inl l ↦ sym (z.rows_done c (omega (arith, l)))
         | inr l ↦
-            x.offered.other_rows c (λ k lk q. omega (arith, q, l, (is_end (tables_of system) d k lk).channel))
+            x.offered.other_rows c (λ k lk q. omega (arith, q, l, (own_end (tables_of system) d k lk).channel))
             ∙ sym (z.rows_left c (omega (arith, l)))
       ] in
       let kept2 : (e : ℕ) → (i : ℕ) → i < length (ends_at system e) →

@@ -2,7 +2,7 @@
 use Rattle.std.specs.Prelude.{◌≡◌, ◌≢◌, ℕ, ◌+◌, ◌-◌, ◌<◌, List, [], ◌∷◌, ◌++◌, length, get_or, set, map, Vec, Option, Some, None}
 use Rattle.java_values.specs.declared.kind.Kind.TheVariants as kind
 use Rattle.tick_log.specs.declared.history.JoinRow.{JoinRow}
-use Rattle.tick_log.specs.Runs.{HistoryState}
+use Rattle.tick_log.specs.definitions.Containers.{HistoryState}
 use Rattle.cell_core.specs.declared.moves.Joined.{Joined}
 use Rattle.cell_core.specs.declared.moves.CellMove.{CellMove}
 use Rattle.cell_core.specs.declared.moves.CellMove.TheVariants.{Offer, Recall}
@@ -10,9 +10,9 @@ use Rattle.std.specs.Global.{Global}
 use Rattle.cell_core.specs.Cells.{CellState, cell_step, cell_reply, empty_cell, standing_at}
 use Rattle.cell_core.specs.CellEnds.{standing_offer, CellFits}
 use Rattle.cell_core.specs.Ends.{EndView}
-use Rattle.domain_core.specs.declared.ends_of.EndOf.{EndOf}
-use Rattle.domain_core.specs.EndCalls.{end_at}
-use Rattle.domain_core.specs.Steps.{join_stamp}
+use Rattle.domain_core.specs.declared.step.ends_of.EndOf.{EndOf}
+use Rattle.domain_core.specs.definitions.step.EndCalls.{end_at}
+use Rattle.domain_core.specs.definitions.runs.Stamps.{stamp_of_join}
 use Rattle.gals_core.specs.declared.links.Link.{Link}
 
 -- The channels, a cell and a history for each, how many ticks each domain has made or is making, the ends of
@@ -70,7 +70,7 @@ row_of links ticks c j = record {
   value = j.value;
   sender_ticks = get_or ticks (link_at links c).sender 0;
   receiver_ticks = get_or ticks (link_at links c).receiver 0;
-  stamp = join_stamp j;
+  stamp = stamp_of_join j;
 }
 
 abbrev pub row_in : ChannelsState → ℕ → Joined → JoinRow

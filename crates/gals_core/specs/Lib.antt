@@ -1,5 +1,7 @@
+pub mod BetweenTurns
 pub mod Channels
-pub mod Worlds
-pub mod OrderRuns
 pub mod Opening
-pub mod OrderPlans
+pub mod Plans
+pub mod Setups
+pub mod Worlds
+pub mod definitions

@@ -1,27 +1,30 @@
 -- What a scheduled run over cells knows between two turns.
-use Rattle.std.specs.Prelude.{◌≡◌, ℕ, ◌+◌, ◌*◌, ◌<◌, ◌≤◌, true, false, ℤ, List, [], ◌++◌, length, map, get_or, max, Option, IsNone, IsSomeAnd, ◌⊎◌}
+use Rattle.std.specs.Prelude.{◌≡◌, ℕ, ◌+◌, ◌*◌, ◌<◌, ◌≤◌, true, false, ℤ, List, [], ◌++◌, length, map, get_or, max, Option, IsNone, IsSomeAnd}
 use Rattle.kernel_terms.specs.declared.tables.Tables.{Tables}
 use Rattle.kernel_terms.specs.declared.system.System.{System}
 use Rattle.kernel_terms.specs.Systems.{tables_of}
 use Rattle.kernel_terms.specs.TableEntries.{channel_at}
-use Rattle.kernel_rules.specs.LegalTick.{DomainState}
+use Rattle.kernel_terms.specs.Marks.{Going}
+use Rattle.kernel_rules.specs.definitions.LegalTick.{DomainState}
 use Rattle.tick_log.specs.declared.history.JoinRow.{JoinRow}
-use Rattle.tick_log.specs.Runs.{Entry, RunState, mark_of, log_of, history_of}
+use Rattle.tick_log.specs.definitions.Runs.{Entry, RunState, log_of, history_of}
 use Rattle.cell_core.specs.declared.moves.Side.{Side}
 use Rattle.cell_core.specs.declared.moves.Side.TheVariants.{Sender, Receiver}
 use Rattle.cell_core.specs.declared.moves.Joined.{Joined}
 use Rattle.cell_core.specs.Cells.{CellState, standing_at, recall_reply}
 use Rattle.cell_core.specs.CellEnds.{standing_offer}
 use Rattle.cell_core.specs.Ends.{StandingOffer}
-use Rattle.domain_core.specs.declared.ends_of.EndOf.{EndOf}
-use Rattle.domain_core.specs.declared.outcome.Outcome.TheVariants.{Going, Ended}
-use Rattle.domain_core.specs.EndCalls.{end_at}
-use Rattle.domain_core.specs.EndPlaces.{raised}
-use Rattle.domain_core.specs.Domains.{DomainView, ends_of, tick_count_of, has_ended_as, state_of, joins_at}
-use Rattle.domain_core.specs.Steps.{Waits, IsWaitingOffer, with_answers, newest_of}
-use Rattle.domain_core.specs.Compiling.{setup_of}
-use Rattle.domain_core.specs.Systems.{Setup, SystemState, Move, domain_count}
-use Rattle.domain_core.specs.Scheduled.{TellsFrom, StampsFrom, TakesTurns, IsScheduledRun}
+use Rattle.domain_core.specs.declared.step.ends_of.EndOf.{EndOf}
+use Rattle.domain_core.specs.definitions.step.EndCalls.{end_at}
+use Rattle.domain_core.specs.step.Answers.{raised}
+use Rattle.domain_core.specs.definitions.step.Domains.{DomainView, ends_of, tick_count_of, state_of, joins_at}
+use Rattle.domain_core.specs.definitions.step.Steps.{Waits, IsWaitingOffer}
+use Rattle.domain_core.specs.step.Answers.{with_answers, newest_of}
+use Rattle.gals_core.specs.Setups.{order_setup}
+use Rattle.domain_core.specs.definitions.runs.Systems.{Setup, SystemState, Move, start_of, domain_count}
+use Rattle.domain_core.specs.definitions.runs.LegalRuns.{Fits}
+use Rattle.domain_core.specs.definitions.runs.Scheduled.{TellsFrom, TakesTurns, IsScheduledRun}
+use Rattle.domain_core.specs.runs.StampsByStep.{StampsFrom}
 
 -- the domain that has this side of a channel
 abbrev pub domain_at : Tables → Side → ℕ → ℕ
@@ -41,8 +44,7 @@ pending cell ends = map (λ e. recall_reply (standing_at e.side (cell e.channel)
 pub record IsInCells (system : System) (d : ℕ) (cell : ℕ → CellState) (v : DomainView) : Type 0 where
   pub of_system : v.system ≡ system
   pub of_domain : v.domain ≡ d
-  pub runs : (v.outcome ≡ Going) ⊎ (v.outcome ≡ Ended)
-  pub mark : v.log.mark ≡ mark_of (has_ended_as v.outcome)
+  pub runs : v.stopped ≡ false
   pub lists : length v.joins ≡ length (ends_of (tables_of system) d)
   pub later : (t : ℕ) → tick_count_of v < t → newest_of t v.joins ≡ 0
   pub stands : (n : ℕ) → n < length (ends_of (tables_of system) d) → get_or v.standing n false ≡ true →
@@ -63,10 +65,12 @@ pub record BeginsWith (r : RunState) (entries : ℕ → List Entry) (rows : ℕ 
   pub more_entries : ℕ → List Entry
   pub more_rows : ℕ → List JoinRow
   pub logs : (d : ℕ) → (log_of r d).entries ≡ entries d ++ more_entries d
-  pub histories : (c : ℕ) → (history_of r c).rows ≡ rows c ++ more_rows c
+  pub histories : (c : ℕ) → history_of r c ≡ rows c ++ more_rows c
 
-abbrev pub HasMarks : Setup → RunState → SystemState → Type 0
-HasMarks setup r end = (d : ℕ) → d < domain_count setup → (log_of r d).mark ≡ mark_of (end.domain d).ended
+-- the run has a log for each domain, with its mark in this state, and a history for each channel
+pub record EndsIn (setup : Setup) (r : RunState) (end : SystemState) : Type 0 where
+  pub fits : Fits setup r
+  pub marks : (d : ℕ) → d < domain_count setup → (log_of r d).mark ≡ (end.domain d).mark
 
 -- Whatever run goes on from here with the turns that are left is the scheduled run of all turns.
 pub record GoesOn (system : System) (turns left : List ℕ) (entries : ℕ → List Entry) (rows : ℕ → List JoinRow) (s : SystemState) (last since : ℕ → ℕ) : Type 0 where
@@ -74,8 +78,8 @@ pub record GoesOn (system : System) (turns left : List ℕ) (entries : ℕ → L
   pub j : ℕ → ℕ
   pub t_is : (d : ℕ) → t d ≡ length (entries d)
   pub j_is : (c : ℕ) → j c ≡ length (rows c)
-  pub completes : (r : RunState) (moves : List Move) (end : SystemState) → BeginsWith r entries rows → TakesTurns (setup_of system) s left moves end → TellsFrom r t j moves →
-      StampsFrom (setup_of system) r t j last since moves → HasMarks (setup_of system) r end → IsScheduledRun (setup_of system) r turns end
+  pub completes : (r : RunState) (moves : List Move) (end : SystemState) → BeginsWith r entries rows → TakesTurns (order_setup system) s left moves end → TellsFrom r t j moves →
+      StampsFrom (order_setup system) r t j last since moves → EndsIn (order_setup system) r end → IsScheduledRun (order_setup system) r turns end
 
 -- The domains and the cells of the channels stand for a state of the system from which the turns that are left
 -- complete the scheduled run.
@@ -84,20 +88,21 @@ pub record StandsFor (system : System) (turns left : List ℕ) (view : ℕ → D
   pub last : ℕ → ℕ
   pub since : ℕ → ℕ
   pub goes_on : GoesOn system turns left (λ d. (view d).log.entries) rows s last since
-  pub views : (d : ℕ) → d < domain_count (setup_of system) → IsInCells system d cell (view d)
-  pub state : (d : ℕ) → d < domain_count (setup_of system) → s.domain d ≡ found_state system d cell (view d)
-  pub last_is : (d : ℕ) → d < domain_count (setup_of system) → last d ≡ (view d).stamp
-  pub since_is : (d : ℕ) → d < domain_count (setup_of system) → since d ≡ found_stamp system d cell (view d)
-  pub low : (d : ℕ) → d < domain_count (setup_of system) → since d + 2 * length left ≤ 2 * length turns
+  pub views : (d : ℕ) → d < domain_count (order_setup system) → IsInCells system d cell (view d)
+  pub state : (d : ℕ) → d < domain_count (order_setup system) → s.domain d ≡ found_state system d cell (view d)
+  pub last_is : (d : ℕ) → d < domain_count (order_setup system) → last d ≡ (view d).stamp
+  pub since_is : (d : ℕ) → d < domain_count (order_setup system) → since d ≡ found_stamp system d cell (view d)
+  pub low : (d : ℕ) → d < domain_count (order_setup system) → since d + 2 * length left ≤ 2 * length turns
 
 -- a domain of the system before its first tick
 pub record IsNew (system : System) (d : ℕ) (v : DomainView) : Type 0 where
   pub of_system : v.system ≡ system
   pub of_domain : v.domain ≡ d
-  pub going : v.outcome ≡ Going
+  pub going : v.stopped ≡ false
   pub entries : v.log.entries ≡ []
-  pub mark : v.log.mark ≡ mark_of false
+  pub mark : v.log.mark ≡ Going
   pub stamp : v.stamp ≡ 0
   pub lists : length v.joins ≡ length (ends_of (tables_of system) d)
   pub joins : (n : ℕ) → joins_at v.joins n ≡ []
   pub standing : (n : ℕ) → get_or v.standing n false ≡ false
+  pub state : state_of v ≡ start_of (order_setup system) d

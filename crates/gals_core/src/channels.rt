@@ -4,8 +4,8 @@ ghost use Rattle.std.specs.Prelude.{◌≡◌, ◌^◌, ◌<◌, ◌≤◌, ◌+
 ghost use Rattle.cell_core.specs.declared.moves.CellMove.TheVariants as moves;
 ghost use Rattle.cell_core.specs.Cells.{cell_step, cell_reply, empty_cell, standing_at, stands};
 ghost use Rattle.gals_core.specs.Channels.{link_at, with_reply, no_history, lists_in};
-ghost use Rattle.domain_core.specs.EndCalls.{end_at};
-ghost use Rattle.domain_core.specs.JoinLists.{HasStamps};
+ghost use Rattle.domain_core.specs.definitions.step.EndCalls.{end_at};
+ghost use Rattle.domain_core.specs.step.JoinLists.{HasStamps};
 
 use crate::links::{Link, open_links};
 use crate::opening::{open_cells, open_histories, open_lists};
@@ -134,7 +134,7 @@ impl Ends for Channels {
 impl Channels {
     ghost use Rattle.std.specs.Prelude.{◌+◌, ◌^◌, get_or, set, [], IfOk};
     ghost use Rattle.gals_core.specs.Opening.{AreOpened};
-    ghost use Rattle.gals_core.specs.OrderPlans.{AreDomainsOf, AreBudgets};
+    ghost use Rattle.gals_core.specs.definitions.OrderPlans.{AreDomainsOf, AreBudgets};
 
     /// The channels of a system before the first turn, where each domain makes at most so many
     /// ticks.

@@ -2,9 +2,11 @@
 
 ghost use Rattle.std.specs.Prelude.{◌≡◌, ◌<◌, ◌≤◌, ◌+◌, ◌++◌, ◌∷◌, [], length, IfOk};
 ghost use Rattle.std.specs.Prelude.{vec_len, vec_capacity};
-ghost use Rattle.tick_log.specs.RunText.{run_state};
-ghost use Rattle.gals_core.specs.OrderPlans.{AreDomainsOf, AreBudgets, FitBudgets};
-ghost use Rattle.gals_core.specs.OrderPlans.{IsOrderRun, logs_of};
+ghost use Rattle.kernel_rules.specs.definitions.LegalTick.{no_inputs};
+ghost use Rattle.tick_log.specs.definitions.Holding.{run_state, HoldsRun};
+ghost use Rattle.gals_core.specs.definitions.OrderPlans.{AreDomainsOf, AreBudgets, FitBudgets};
+ghost use Rattle.gals_core.specs.definitions.OrderRuns.{IsOrderRun};
+ghost use Rattle.gals_core.specs.Plans.{logs_of};
 
 use crate::channels::Channels;
 use crate::opening::reserve_all;
@@ -29,7 +31,8 @@ pub struct OrderPlan {
 }
 
 impl Model for OrderPlan {
-    ghost use Rattle.gals_core.specs.OrderPlans.{PlanView, IsReady};
+    ghost use Rattle.gals_core.specs.definitions.OrderPlans.{PlanView};
+    ghost use Rattle.gals_core.specs.Plans.{IsReady};
     ghost use Rattle.kernel_terms.specs.contracts.term.Term as term;
     ghost use Rattle.std.specs.Coded.{codes};
 
@@ -99,7 +102,8 @@ fn into_logs(domains: Vec<Domain>, room: Vec<Log>) -> Vec<Log>
 pub fn run_order(system: &System, plan: OrderPlan, turns: &[u32]) -> Run
     requires system { plan.system ≡ system.now }
     requires turns { FitBudgets plan.ticks turns.now }
-    ensures { IsOrderRun system.now turns.now (run_state result) }
+    ensures run { IsOrderRun system.now no_inputs turns.now (run_state result) }
+    ensures holds { HoldsRun system.now result }
 {
     let OrderPlan {
         mut domains,

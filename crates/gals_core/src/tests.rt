@@ -1,14 +1,11 @@
-ghost use Rattle.std.specs.Prelude.{◌≡◌, true, pos, [], ◌∷◌, length, IfOk, codes, Some, None};
+ghost use Rattle.std.specs.Prelude.{◌≡◌, pos, [], ◌∷◌, length, IfOk, codes, None};
 ghost use Rattle.java_values.specs.declared.kind.Kind.TheVariants as kind;
-ghost use Rattle.kernel_terms.specs.Systems.{tables_of, domains_of};
-ghost use Rattle.kernel_terms.specs.Statements.{statement};
+ghost use Rattle.kernel_terms.specs.Systems.{domains_of};
 ghost use Rattle.kernel_terms.specs.Statements as rules;
 ghost use Rattle.kernel_terms.specs.Expressions.{Literal};
-ghost use Rattle.kernel_terms.specs.WellFormed.{has_parts};
-ghost use Rattle.domain_core.specs.BuiltForms.{plain, is_built};
-ghost use Rattle.domain_core.specs.BuiltForms as built;
-ghost use Rattle.domain_core.specs.Compiling.{CanCompile};
-ghost use Rattle.gals_core.specs.OrderPlans.{FitBudgets};
+ghost use Rattle.domain_core.specs.definitions.Rows.{IsTermOf, IsPair, pure_domains};
+ghost use Rattle.domain_core.specs.definitions.step.Compiling.{CanCompile};
+ghost use Rattle.gals_core.specs.definitions.OrderPlans.{FitBudgets};
 
 use crate::{OrderPlan, run_order};
 use domain_core::compile;
@@ -29,10 +26,7 @@ fn term(form: Form) -> Term
 
 // `send C(5); emit D;`
 fn sending(alloc: Global) -> Result<Term, NoMemory>
-    ensures statement { IfOk result (λ t. statement t ≡ rules.Seq (rules.Send 0 (Literal kind.Int (pos 5))) (rules.Emit 0 None)) }
-    ensures plain { IfOk result (λ t. plain t ≡ built.Seq (built.Send 0 (pos 5)) (built.Emit 0)) }
-    ensures built { IfOk result (λ t. is_built t ≡ true) }
-    ensures parts { IfOk result (λ t. has_parts t ≡ true) }
+    ensures { IfOk result (IsTermOf (rules.Seq (rules.Send 0 (Literal kind.Int (pos 5))) (rules.Emit 0 None))) }
 {
     let five = Expr {
         kind: Kind::Int,
@@ -52,10 +46,7 @@ fn sending(alloc: Global) -> Result<Term, NoMemory>
 
 // `receive C; emit B;`
 fn receiving(alloc: Global) -> Result<Term, NoMemory>
-    ensures statement { IfOk result (λ t. statement t ≡ rules.Seq (rules.Receive 0) (rules.Emit 1 None)) }
-    ensures plain { IfOk result (λ t. plain t ≡ built.Seq (built.Receive 0) (built.Emit 1)) }
-    ensures built { IfOk result (λ t. is_built t ≡ true) }
-    ensures parts { IfOk result (λ t. has_parts t ≡ true) }
+    ensures { IfOk result (IsTermOf (rules.Seq (rules.Receive 0) (rules.Emit 1 None))) }
 {
     let receive = term(Form::Receive { channel: 0 });
     let emit = term(Form::Emit {
@@ -81,12 +72,7 @@ fn output(alloc: Global, name: &[u8], domain: u32) -> Result<SignalInfo, NoMemor
 // Domain 0 has the signal `D` and sends on the channel `C`, and domain 1 has the signal `B` and
 // receives.
 fn tables(alloc: Global) -> Result<Tables, NoMemory>
-    ensures { IfOk result (λ t. t ≡ record {
-      signals = record { name = codes "D"; domain = 0; sort = Sort.Output; kind = None; combine = Combine.Max }
-          ∷ record { name = codes "B"; domain = 1; sort = Sort.Output; kind = None; combine = Combine.Max } ∷ [];
-      channels = record { name = codes "C"; kind = Kind.Int; sender = 0; receiver = 1 } ∷ [];
-      variables = [];
-    }) }
+    ensures { IfOk result (λ t. t ≡ pure_domains) }
 {
     let signals = vec![in alloc; output(alloc, b"D", 0)?, output(alloc, b"B", 1)?]?;
     let channel = ChannelInfo {
@@ -104,14 +90,21 @@ fn tables(alloc: Global) -> Result<Tables, NoMemory>
 }
 
 fn two_domains(alloc: Global) -> Result<System, NoMemory>
-    ensures count { IfOk result (λ s. length (domains_of s) ≡ 2) }
-    ensures sending { IfOk result (λ s. CanCompile s 0) }
-    ensures receiving { IfOk result (λ s. CanCompile s 1) }
+    ensures { IfOk result IsPair }
 {
     let tables = tables(alloc)?;
-    let domains = vec![in alloc; sending(alloc)?, receiving(alloc)?]?;
+    let sending = sending(alloc)?;
+    let receiving = receiving(alloc)?;
+    let domains = vec![in alloc; sending, receiving]?;
     Ok(System::new(tables, Items::from_vec(domains)))
 }
+
+fn tell_pair(system: &System)
+    requires { IsPair system.now }
+    ensures count { length (domains_of system.now) ≡ 2 }
+    ensures sending { CanCompile system.now 0 }
+    ensures receiving { CanCompile system.now 1 }
+{}
 
 // The run of these turns, at most 3 of domain 0 and 2 of domain 1.
 fn run_of(alloc: Global, system: &System, turns: &[u32]) -> Result<Run, Fail>
@@ -136,6 +129,7 @@ fn tell_fit(turns: &[u32])
 #[test]
 fn one_rendezvous(rt: HostRuntime) -> Result<(), Fail> {
     let system = two_domains(rt.alloc())?;
+    tell_pair(&system);
     let turns = [0, 1, 0, 1, 0];
     tell_fit(&turns);
     let run = run_of(rt.alloc(), &system, &turns)?;

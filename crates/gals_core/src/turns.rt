@@ -1,7 +1,7 @@
 // The turns of a scheduled run.
 
 ghost use Rattle.std.specs.Prelude.{◌<◌, ◌+◌, [], length, drop};
-ghost use Rattle.gals_core.specs.OrderRuns.{IsBetweenTurns};
+ghost use Rattle.gals_core.specs.BetweenTurns.{IsBetweenTurns};
 
 use crate::channels::Channels;
 use domain_core::Domain;

@@ -1,5 +1,5 @@
 use Rattle.std.proofs.Common.{◌≡◌, map, take}
-use Rattle.domain_core.specs.Domains.{ends_in}
+use Rattle.domain_core.specs.definitions.step.Domains.{ends_in}
 use Rattle.gals_core.specs.Channels.{lists_in}
 use Rattle.gals_core.proofs.opening.open_lists.Given as goal
 

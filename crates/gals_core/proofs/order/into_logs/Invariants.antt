@@ -1,6 +1,6 @@
 use Rattle.std.proofs.Common.{◌≡◌, ◌≤◌, length}
 use Rattle.std.specs.Prelude.{vec_len, vec_capacity}
-use Rattle.gals_core.specs.OrderPlans.{logs_of}
+use Rattle.gals_core.specs.Plans.{logs_of}
 use Rattle.gals_core.proofs.order.into_logs.Given as goal
 
 abbrev pub invariant-loop-domain : goal.invariant-loop-domain

@@ -1,9 +1,9 @@
 use Rattle.std.proofs.Common.{◌≡◌, subst, sym, ap, ◌∙◌}
 use Rattle.kernel_terms.specs.declared.system.System.{System}
-use Rattle.tick_log.specs.RunText.{run_state}
-use Rattle.gals_core.specs.OrderPlans.{PlanView, IsReady, FitBudgets}
+use Rattle.gals_core.specs.definitions.OrderPlans.{PlanView, FitBudgets}
+use Rattle.gals_core.specs.Plans.{IsReady}
 use Rattle.gals_core.proofs.Starting.{starts}
-use Rattle.gals_core.proofs.Finished.{is_order_run}
+use Rattle.gals_core.proofs.Finished.{is_order_run, signals_are}
 use Rattle.gals_core.proofs.order.run_order.Goals as goal
 
 pub take_turns-requires : goal.take_turns-requires
@@ -14,7 +14,17 @@ take_turns-requires c =
     let fit = subst (λ (v : PlanView). FitBudgets v.ticks c.args.turns.now) (sym c.plan.view_is) c.requires.turns in
     starts c.args.system.now p.ticks.items c.args.turns.now p.domains.items p.channels p.logs ready fit
 
-pub returns : goal.returns
-returns c =
-    is_order_run c.args.system.now c.args.turns.now c.take_turns.new.domains.items c.take_turns.new.channels (run_state (record { domains = c.into_logs.result; channels = c.into_histories.result }))
+pub returns-clause-run : goal.returns-clause-run
+returns-clause-run c =
+    is_order_run c.args.system.now c.args.turns.now c.take_turns.new.domains.items c.take_turns.new.channels c.into_logs.result.items c.into_histories.result.items
     c.take_turns.ensures c.into_logs.ensures c.into_histories.ensures.items c.into_histories.ensures.count
+
+pub returns-clause-holds : goal.returns-clause-holds
+returns-clause-holds c = record {
+  fits =
+      (is_order_run c.args.system.now c.args.turns.now c.take_turns.new.domains.items c.take_turns.new.channels c.into_logs.result.items c.into_histories.result.items
+      c.take_turns.ensures c.into_logs.ensures c.into_histories.ensures.items c.into_histories.ensures.count).fits;
+  signals =
+      signals_are c.args.system.now c.args.turns.now c.take_turns.new.domains.items c.take_turns.new.channels c.into_logs.result.items c.into_histories.result.items
+      c.take_turns.ensures c.into_logs.ensures c.into_histories.ensures.items c.into_histories.ensures.count;
+}

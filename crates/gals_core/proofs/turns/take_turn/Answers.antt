@@ -1,13 +1,15 @@
-use Rattle.std.proofs.Common.{◌≡◌, ◌<◌, ◌≤◌, ◌+◌, ◌∷◌, List, ℕ, suc, length, drop, get_or, subst, sym, ap, ◌∙◌, arith}
+use Rattle.std.proofs.Common.{◌≡◌, ◌<◌, ◌≤◌, ◌+◌, ◌∷◌, List, ℕ, suc, length, drop, get_or, false, subst, sym, ap, ◌∙◌, arith}
 use Rattle.std.proofs.Math.Seq.{drop-cons}
 use Rattle.std.proofs.lemmas.List.{get_or_default}
 use Rattle.kernel_terms.specs.declared.system.System.{System}
-use Rattle.domain_core.specs.declared.outcome.Outcome.TheVariants.{Going}
-use Rattle.domain_core.specs.Domains.{DomainView, ends_in, has_ended_as}
-use Rattle.domain_core.specs.Steps.{FitsEnd, LeavesEnd, IsStep}
+use Rattle.kernel_terms.specs.Marks.{Going, is_over}
+use Rattle.kernel_rules.specs.definitions.LegalTick.{no_inputs}
+use Rattle.domain_core.specs.definitions.step.Domains.{DomainView, ends_in}
+use Rattle.domain_core.specs.definitions.step.Steps.{FitsEnd, LeavesEnd, IsStep}
 use Rattle.gals_core.specs.Channels.{ChannelsState, Moves, end_view}
-use Rattle.gals_core.specs.OrderRuns.{IsBetweenTurns, view_at, no_domain}
-use Rattle.gals_core.proofs.BetweenTurns.{in_views, in_ticks, countable, spared, goes, counted, all_fit, skipped, stepped}
+use Rattle.gals_core.specs.BetweenTurns.{IsBetweenTurns}
+use Rattle.gals_core.specs.definitions.OrderPlans.{view_at, no_domain}
+use Rattle.gals_core.proofs.BetweenTurns.{in_views, in_ticks, countable, spared, goes, runs, counted, all_fit, skipped, stepped}
 use Rattle.gals_core.proofs.turns.take_turn.Goals as goal
 
 split : (system : System) (turns : List ℕ) (at : ℕ) (views : List DomainView) (b : ChannelsState) → at < length turns → IsBetweenTurns system turns (drop at turns) views b →
@@ -30,7 +32,7 @@ returns-then-ended c =
     let b = c.args.channels.now in
     let k = split system turns c.args.at views b c.requires.within c.requires.between in
     let is = own_view system views d c.index.result.now (in_views system turns rest d views b k) c.index.ensures in
-    skipped system turns rest d views b k (ap (λ (z : DomainView). has_ended_as z.outcome) is ∙ sym c.ended.ensures ∙ c.if-ended.true)
+    skipped system turns rest d views b k (ap (λ (z : DomainView). is_over z.log.mark) is ∙ sym c.ended.ensures ∙ c.if-ended.true)
 
 pub begin_turn-requires-clause-within : goal.begin_turn-requires-clause-within
 begin_turn-requires-clause-within c =
@@ -63,7 +65,19 @@ step-requires-clause-going c =
     let less = in_views system turns rest d views b k in
     let before = own_view system views d c.index.result.now less c.index.ensures in
     let is = own_view system views d c.index_mut.result.now less c.index_mut.ensures.value in
-    subst (λ (z : DomainView). z.outcome ≡ Going) is (goes system turns rest d views b k (ap (λ (z : DomainView). has_ended_as z.outcome) before ∙ sym c.ended.ensures ∙ c.if-ended.false))
+    subst (λ (z : DomainView). z.log.mark ≡ Going) is (goes system turns rest d views b k (ap (λ (z : DomainView). is_over z.log.mark) before ∙ sym c.ended.ensures ∙ c.if-ended.false))
+
+pub step-requires-clause-running : goal.step-requires-clause-running
+step-requires-clause-running c =
+    let system = c.args.system.now in
+    let turns = c.args.turns.now in
+    let rest = drop (c.args.at + 1) turns in
+    let d = get_or turns c.args.at 0 in
+    let views = c.args.domains.now.items in
+    let b = c.args.channels.now in
+    let k = split system turns c.args.at views b c.requires.within c.requires.between in
+    let is = own_view system views d c.index_mut.result.now (in_views system turns rest d views b k) c.index_mut.ensures.value in
+    subst (λ (z : DomainView). z.stopped ≡ false) is (runs system turns rest d views b k)
 
 pub step-requires-clause-spare : goal.step-requires-clause-spare
 step-requires-clause-spare c =
@@ -115,8 +129,8 @@ returns c =
     let is = own_view system views d c.index_mut.result.now (in_views system turns rest d views b k) c.index_mut.ensures.value in
     let after = c.step.new.ends in
     let new = c.step.new.self in
-    let step = subst (λ (z : ChannelsState). IsStep Moves z after (view_at system views d) new c.step.result) c.begin_turn.ensures
-    (subst (λ (z : DomainView). IsStep Moves c.begin_turn.new.self after z new c.step.result) (sym is) c.step.ensures.step) in
+    let step = subst (λ (z : ChannelsState). IsStep Moves no_inputs z after (view_at system views d) new c.step.result) c.begin_turn.ensures
+    (subst (λ (z : DomainView). IsStep Moves no_inputs c.begin_turn.new.self after z new c.step.result) (sym is) c.step.ensures.step) in
     let leaves = subst (λ (z : ChannelsState). (n : ℕ) → n < length (ends_in (view_at system views d)) → LeavesEnd new n (end_view z n) (end_view after n)) c.begin_turn.ensures
     (subst (λ (z : DomainView). (n : ℕ) → n < length (ends_in z) → LeavesEnd new n (end_view c.begin_turn.new.self n) (end_view after n)) (sym is) c.step.ensures.leaves) in
     stepped system turns rest d views b k after new c.step.result step leaves

@@ -1,5 +1,5 @@
 use Rattle.std.proofs.Common.{drop}
-use Rattle.gals_core.specs.OrderRuns.{IsBetweenTurns}
+use Rattle.gals_core.specs.BetweenTurns.{IsBetweenTurns}
 use Rattle.gals_core.proofs.turns.take_turns.Given as goal
 
 abbrev pub invariant-loop-at : goal.invariant-loop-at

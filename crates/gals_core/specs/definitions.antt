@@ -1,0 +1,2 @@
+pub mod OrderPlans
+pub mod OrderRuns
