@@ -5,7 +5,7 @@ use Rattle.std.proofs.Math.Seq.{drop-cons}
 use Rattle.std.proofs.lemmas.Bool.Decides.{nat_tests}
 use Rattle.std.proofs.lemmas.List.{length-replicate, length-set, get_or-replicate, get_or-set_same, get_or-set_other}
 use Rattle.std.proofs.lemmas.List.FromFn.{fill_by_all}
-use Rattle.domain_core.specs.Scheduled.{turns_of}
+use Rattle.domain_core.specs.definitions.runs.Scheduled.{turns_of}
 use Rattle.sj_main.specs.declared.commands.Turns.{Turns}
 use Rattle.sj_main.specs.declared.commands.Turns.TheVariants.{Rounds}
 use Rattle.sj_main.specs.definitions.Commands.{most_turns, rounds_of, budgets_for}

@@ -1,5 +1,5 @@
-pub mod Lists
-pub mod WeightLemmas
+pub mod LoopLemmas
+mod BuiltForms
 pub mod Acceptance
 pub mod Budgets
 pub mod ReadTurns

@@ -7,14 +7,14 @@ use Rattle.std.proofs.lemmas.List.{get_or_append_left, get_or_past}
 use Rattle.std.proofs.lemmas.List.FromFn.{length-map-range_with_len, get_or-map-range_with_len}
 use Rattle.kernel_terms.specs.declared.system.System.{System}
 use Rattle.kernel_terms.specs.Systems.{tables_of, domains_of}
-use Rattle.tick_log.specs.Runs.{RunState}
-use Rattle.tick_log.specs.RunText.{run_state}
-use Rattle.domain_core.specs.Systems.{Setup, SystemState}
-use Rattle.domain_core.specs.Domains.{DomainView}
-use Rattle.domain_core.specs.Compiling.{IsCompiled}
-use Rattle.domain_core.specs.Scheduled.{IsScheduledRun, IsWholeRun, turns_of}
-use Rattle.gals_core.specs.OrderRuns.{no_domain, view_at}
-use Rattle.gals_core.specs.OrderPlans.{AreDomainsOf, AreBudgets, FitBudgets}
+use Rattle.tick_log.specs.definitions.Runs.{RunState}
+use Rattle.tick_log.specs.definitions.Holding.{run_state}
+use Rattle.kernel_rules.specs.definitions.LegalTick.{no_inputs}
+use Rattle.domain_core.specs.definitions.runs.Systems.{Setup, SystemState}
+use Rattle.domain_core.specs.definitions.step.Domains.{DomainView}
+use Rattle.domain_core.specs.definitions.step.Compiling.{IsCompiled}
+use Rattle.domain_core.specs.definitions.runs.Scheduled.{IsScheduledRun, IsWholeRun, turns_of}
+use Rattle.gals_core.specs.definitions.OrderPlans.{no_domain, view_at, AreDomainsOf, AreBudgets, FitBudgets}
 use Rattle.sj_main.specs.declared.commands.Turns.{Turns}
 use Rattle.sj_main.specs.declared.commands.Turns.TheVariants.{Rounds, Each}
 use Rattle.sj_main.specs.declared.order.Made.{Made}
@@ -24,7 +24,7 @@ use Rattle.sj_main.specs.Words.{AreFew}
 use Rattle.sj_main.specs.Rules.{Accepts}
 use Rattle.sj_main.specs.Orders.{IsMadeFrom, RunsTurns, WeighsTooMuch, IsWhyNoRun, IsWhy}
 use Rattle.sj_main.specs.definitions.Commands.{most_turns, rounds_of, turns_for, FitDomains, budgets_for}
-use Rattle.sj_main.specs.definitions.RunWeight.{most_run_weight, run_weight}
+use Rattle.sj_main.specs.definitions.RunWeight.{run_weight}
 use Rattle.sj_main.specs.definitions.Verdicts.{IsMisfit, IsOverweight}
 use Rattle.sj_main.proofs.Budgets.{turns_of-rounds}
 
@@ -175,8 +175,8 @@ made_from bytes turns made a r =
       can = record { fit = subst (FitDomains turns) a.domains r.fit; weight = (let z = weight_as bytes made.system turns a in let y = r.weight in omega arith) };
       tables = a.tables;
       last = r.is.end;
-      scheduled = same_run _ _ (run_state made.run) _ _ r.is.end a.setup same r.is.scheduled;
-      whole = same_whole _ _ (run_state made.run) _ _ a.setup same r.is.whole;
+      scheduled = same_run _ _ (run_state made.run) _ _ r.is.end (a.setup no_inputs) same r.is.scheduled;
+      whole = same_whole _ _ (run_state made.run) _ _ (a.setup no_inputs) same r.is.whole;
     }
 
 misfit : (bytes : List ℕ) (system : System) (turns : Turns) → Accepts bytes system → (FitDomains turns (length (domains_of system)) → ⊥) → IsMisfit bytes turns

@@ -5,10 +5,11 @@ use Rattle.std.proofs.lemmas.List.{map-append}
 use Rattle.java_values.specs.declared.kind.Kind.TheVariants.{Int}
 use Rattle.kernel_terms.specs.declared.expr.Expr.{Expr}
 use Rattle.kernel_terms.specs.declared.expr.ExprForm as value
+use Rattle.kernel_terms.specs.Expressions.{Literal}
 use Rattle.kernel_terms.specs.declared.term.Term.{Term}
 use Rattle.kernel_terms.specs.declared.term.Form as form
 use Rattle.sj_main.specs.BuiltTerms.{is_int, IsBuilt, AreBuilt}
-use Rattle.domain_core.specs.BuiltForms.{Nothing, Pause, Emit, Loop, Send, Receive, sequence, plain}
+use Rattle.kernel_terms.specs.Statements.{Nothing, Pause, Emit, Loop, Send, Receive, sequence, statement}
 use Rattle.sj_main.specs.declared.token.Token.{Token}
 use Rattle.sj_main.specs.declared.token.Token.TheVariants.{Reserved, Sign, Name, Number}
 use Rattle.sj_main.specs.declared.token.Word.TheVariants as word
@@ -18,8 +19,8 @@ use Rattle.sj_main.specs.definitions.Programs.{Interface, parts_of, signal_of, c
 use Rattle.sj_main.specs.definitions.Accepted.{IsOneOf, opens, most_open}
 use Rattle.sj_main.specs.ReadingBlocks.{BeginsNot, IsBlock, IsClosed, Remains, Reads, IsRead, NoStatement, StartsLoop, StartsSend, ReadsAlways, ReadsAtAnyLevel, NoPause, NoEmit, NoSend, NoReceive, NoLoop, IsSequence}
 use Rattle.sj_main.specs.ReadingNames.{IsPlace}
-use Rattle.domain_core.proofs.BuiltLayers.{plain-Loop}
-use Rattle.sj_main.proofs.ReadTerms.{plain-Nothing, plain-Pause, plain-Emit, plain-Send, plain-Receive, literal_is, built-Nothing, built-Pause, built-Emit, built-Send, built-Receive, built-Loop}
+use Rattle.kernel_terms.proofs.Layers.{statement-Loop}
+use Rattle.sj_main.proofs.ReadTerms.{statement-Nothing, statement-Pause, statement-Emit, statement-Send, statement-Receive, literal_is, built-Nothing, built-Pause, built-Emit, built-Send, built-Receive, built-Loop}
 use Rattle.sj_main.proofs.ReadGrammar.{block_once}
 
 built_both : (i : Interface) (xs ys : List Term) → AreBuilt i xs → AreBuilt i ys → AreBuilt i (xs ++ ys)
@@ -43,14 +44,14 @@ reads_both i level start middle rest xs ys r s = record {
   before = λ b. r.before (s.before b);
   there = λ b after h. r.there (s.before b) after (s.there b after h);
   keeps = λ b h. r.keeps (s.before b) (s.keeps b h);
-  parts = λ b. r.parts (s.before b) ∙ ap (λ l. map plain xs ++ l) (s.parts b) ∙ sym (append_assoc (map plain xs) (map plain ys) (parts_of i b)) ∙ ap (λ l. l ++ parts_of i b) (sym (map-append plain xs ys));
+  parts = λ b. r.parts (s.before b) ∙ ap (λ l. map statement xs ++ l) (s.parts b) ∙ sym (append_assoc (map statement xs) (map statement ys) (parts_of i b)) ∙ ap (λ l. l ++ parts_of i b) (sym (map-append statement xs ys));
   back = λ b after h k. let m = r.back b after h k in s.back m.block after m.closed m.keeps;
   fits = built_both i xs ys r.fits s.fits;
   shorter = let a = r.shorter in let b = s.shorter in omega (arith, length-append xs ys);
 }
 
 -- the block after `;`
-pub reads_empty : (i : Interface) (level : ℕ) (start rest : List Token) (t : Term) → start ≡ Sign mark.Semicolon ∷ rest → plain t ≡ Nothing → IsBuilt i t
+pub reads_empty : (i : Interface) (level : ℕ) (start rest : List Token) (t : Term) → start ≡ Sign mark.Semicolon ∷ rest → statement t ≡ Nothing → IsBuilt i t
     → Reads i level start (t ∷ []) rest
 reads_empty i level start rest t e s f = record {
   before = EmptyThen;
@@ -71,7 +72,7 @@ reads_empty i level start rest t e s f = record {
     back (SendThen m n b) after h k = let x = h.is in absurd (cc)
     back (ReceiveThen m b) after h k = let x = h.is in absurd (cc)
 
-pub reads_pause : (i : Interface) (level : ℕ) (start rest : List Token) (t : Term) → start ≡ Reserved word.Pause ∷ Sign mark.Semicolon ∷ rest → plain t ≡ Pause → IsBuilt i t
+pub reads_pause : (i : Interface) (level : ℕ) (start rest : List Token) (t : Term) → start ≡ Reserved word.Pause ∷ Sign mark.Semicolon ∷ rest → statement t ≡ Pause → IsBuilt i t
     → Reads i level start (t ∷ []) rest
 reads_pause i level start rest t e s f = record {
   before = PauseThen;
@@ -93,7 +94,7 @@ reads_pause i level start rest t e s f = record {
     back (ReceiveThen m b) after h k = let x = h.is in absurd (cc)
 
 pub reads_emit : (i : Interface) (level : ℕ) (start rest : List Token) (name : List ℕ) (t : Term) → start ≡ Reserved word.Emit ∷ Name name ∷ Sign mark.Semicolon ∷ rest
-    → IsOneOf i.signals name → plain t ≡ Emit (signal_of i name) → IsBuilt i t
+    → IsOneOf i.signals name → statement t ≡ Emit (signal_of i name) None → IsBuilt i t
     → Reads i level start (t ∷ []) rest
 reads_emit i level start rest name t e d s f = record {
   before = EmitThen name;
@@ -115,7 +116,7 @@ reads_emit i level start rest name t e d s f = record {
     back (ReceiveThen m b) after h k = let x = h.is in absurd (cc)
 
 pub reads_receive : (i : Interface) (level : ℕ) (start rest : List Token) (name : List ℕ) (t : Term) → start ≡ Reserved word.Receive ∷ Name name ∷ Sign mark.Semicolon ∷ rest
-    → IsOneOf i.channels name → plain t ≡ Receive (channel_of i name) → IsBuilt i t
+    → IsOneOf i.channels name → statement t ≡ Receive (channel_of i name) → IsBuilt i t
     → Reads i level start (t ∷ []) rest
 reads_receive i level start rest name t e d s f = record {
   before = ReceiveThen name;
@@ -146,7 +147,7 @@ depth_in_send : (level rest : ℕ) → level + max 1 rest ≤ most_open → leve
 depth_in_send level rest a = omega arith
 
 pub reads_send : (i : Interface) (level : ℕ) (start rest : List Token) (name : List ℕ) (n : ℤ) (t : Term) → StartsSend start name n rest → level + 1 ≤ most_open
-    → IsOneOf i.channels name → plain t ≡ Send (channel_of i name) n → IsBuilt i t
+    → IsOneOf i.channels name → statement t ≡ Send (channel_of i name) (Literal Int n) → IsBuilt i t
     → Reads i level start (t ∷ []) rest
 reads_send i level start rest name n t e l d s f = record {
   before = SendThen name n;
@@ -181,7 +182,7 @@ depth_of_body : (level body rest : ℕ) → level + max (1 + body) rest ≤ most
 depth_of_body level body rest a = omega arith
 
 pub reads_loop : (i : Interface) (level : ℕ) (start inner rest : List Token) (terms : List Term) (t : Term) → StartsLoop start inner
-    → IsRead i (level + 1) inner terms rest → plain t ≡ Loop (sequence (map plain terms)) → IsBuilt i t
+    → IsRead i (level + 1) inner terms rest → statement t ≡ Loop (sequence (map statement terms)) → IsBuilt i t
     → Reads i level start (t ∷ []) rest
 reads_loop i level start inner rest terms t e r s f = record {
   before = WhileThen r.block;
@@ -227,30 +228,30 @@ no_statement i level start a p e s v l = record { none = none }
         (record { declared = k.declared.0; depth = depth_of_body level (opens c) (opens b) k.depth }))
 
 pub always_empty : (start rest : List Token) (t : Term) → start ≡ Sign mark.Semicolon ∷ rest → t.form ≡ form.Nothing → ReadsAlways start t rest
-always_empty start rest t e f = record { reads = λ i level. reads_empty i level start rest t e (plain-Nothing t f) (built-Nothing t f i) }
+always_empty start rest t e f = record { reads = λ i level. reads_empty i level start rest t e (statement-Nothing t f) (built-Nothing t f i) }
 
 pub always_pause : (start middle rest : List Token) (t : Term) → start ≡ Reserved word.Pause ∷ middle → middle ≡ Sign mark.Semicolon ∷ rest → t.form ≡ form.Pause → ReadsAlways start t rest
-always_pause start middle rest t e g f = record { reads = λ i level. reads_pause i level start rest t (e ∙ ap (λ l. Reserved word.Pause ∷ l) g) (plain-Pause t f) (built-Pause t f i) }
+always_pause start middle rest t e g f = record { reads = λ i level. reads_pause i level start rest t (e ∙ ap (λ l. Reserved word.Pause ∷ l) g) (statement-Pause t f) (built-Pause t f i) }
 
 pub always_emit : (i : Interface) (start named middle rest : List Token) (name : List ℕ) (place : ℕ) (t : Term) → start ≡ Reserved word.Emit ∷ named → named ≡ Name name ∷ middle → middle ≡ Sign mark.Semicolon ∷ rest
     → IsPlace i.signals name place → t.form ≡ form.Emit place None → ReadsAtAnyLevel i start t rest
 always_emit i start named middle rest name place t e g h p f = record {
   reads = λ level.
-      reads_emit i level start rest name t (e ∙ ap (λ l. Reserved word.Emit ∷ l) (g ∙ ap (λ l. Name name ∷ l) h)) p.declared (plain-Emit t place f ∙ ap Emit p.number) (built-Emit t place f i p.within);
+      reads_emit i level start rest name t (e ∙ ap (λ l. Reserved word.Emit ∷ l) (g ∙ ap (λ l. Name name ∷ l) h)) p.declared (statement-Emit t place f ∙ ap (λ s. Emit s None) p.number) (built-Emit t place f i p.within);
 }
 
 pub always_receive : (i : Interface) (start named middle rest : List Token) (name : List ℕ) (place : ℕ) (t : Term) → start ≡ Reserved word.Receive ∷ named → named ≡ Name name ∷ middle → middle ≡ Sign mark.Semicolon ∷ rest
     → IsPlace i.channels name place → t.form ≡ form.Receive place → ReadsAtAnyLevel i start t rest
 always_receive i start named middle rest name place t e g h p f = record {
   reads = λ level.
-      reads_receive i level start rest name t (e ∙ ap (λ l. Reserved word.Receive ∷ l) (g ∙ ap (λ l. Name name ∷ l) h)) p.declared (plain-Receive t place f ∙ ap Receive p.number) (built-Receive t place f i p.within);
+      reads_receive i level start rest name t (e ∙ ap (λ l. Reserved word.Receive ∷ l) (g ∙ ap (λ l. Name name ∷ l) h)) p.declared (statement-Receive t place f ∙ ap Receive p.number) (built-Receive t place f i p.within);
 }
 
 pub sends_literal : (i : Interface) (level : ℕ) (start rest : List Token) (name : List ℕ) (n : ℤ) (place : ℕ) (t : Term) (v : Expr) → StartsSend start name n rest → level < most_open
     → IsPlace i.channels name place → t.form ≡ form.Send place v → v.form ≡ value.Literal n → v.kind ≡ Int → is_int n ≡ true → Reads i level start (t ∷ []) rest
 sends_literal i level start rest name n place t v e l p f g k r =
     let x = literal_is v n g k in
-    reads_send i level start rest name n t e (omega arith) p.declared (plain-Send t place v n f x ∙ ap (λ c. Send c n) p.number) (built-Send t place v n f x r i p.within)
+    reads_send i level start rest name n t e (omega arith) p.declared (statement-Send t place v n f x ∙ ap (λ c. Send c (Literal Int n)) p.number) (built-Send t place v n f x r i p.within)
 
 pub reads_start : (i : Interface) (level : ℕ) (start : List Token) (terms : List Term) → terms ≡ [] → Reads i level start terms start
 reads_start i level start terms h = rw h (reads_none i level start)
@@ -261,7 +262,7 @@ reads_push i level start middle rest xs new t r s h = rw h (reads_both i level s
 
 pub reads_loop_of : (i : Interface) (level : ℕ) (start inner rest : List Token) (terms : List Term) (t body : Term) → StartsLoop start inner → IsRead i (level + 1) inner terms rest
     → IsSequence body terms → t.form ≡ form.Loop body → Reads i level start (t ∷ []) rest
-reads_loop_of i level start inner rest terms t body e r q f = reads_loop i level start inner rest terms t e r (plain-Loop t body f ∙ ap Loop q.meaning) (built-Loop t body f i (q.built i r.fits))
+reads_loop_of i level start inner rest terms t body e r q f = reads_loop i level start inner rest terms t e r (statement-Loop t body f ∙ ap Loop q.meaning) (built-Loop t body f i (q.built i r.fits))
 
 pub option_weaker : {X : Type 0} {A B : Type 0} (o : Option X) (P : X → Type 0) → (A → B) → MatchOption o A P → MatchOption o B P
 option_weaker None P f h = f h

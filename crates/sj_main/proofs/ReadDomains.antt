@@ -7,7 +7,7 @@ use Rattle.sj_main.specs.declared.token.Token.{Token}
 use Rattle.sj_main.specs.declared.token.Token.TheVariants.{Sign}
 use Rattle.sj_main.specs.declared.token.Mark.TheVariants as mark
 use Rattle.sj_main.specs.BuiltTerms.{IsBuilt, AreBuilt}
-use Rattle.domain_core.specs.BuiltForms.{plain, sequence}
+use Rattle.kernel_terms.specs.Statements.{statement, sequence}
 use Rattle.sj_main.specs.definitions.Grammar.{Block, block_tokens, domain_tokens, others_tokens}
 use Rattle.sj_main.specs.definitions.Programs.{Interface, block_statement}
 use Rattle.sj_main.specs.definitions.Accepted.{KeepBlocks}
@@ -77,10 +77,10 @@ domains_more i start front next rest terms new t d h l r e = rw e (record {
   there = λ more a. rw (append_assoc d.others (r.block ∷ []) more) (d.there (r.block ∷ more) (record { is = h ∙ ap (λ x. Sign mark.Beside ∷ x) (r.is ∙ ap (domain_tokens r.block) a.is) }));
   back = λ b all a. (let x = d.back b all a in let y = later all x.1 x.2 x.3 in (x.0, y.0, y.1, y.2));
   keeps = (d.keeps.0, keeps_both i d.others (r.block ∷ []) d.keeps.1 (r.keeps, tt));
-  meaning = map-append plain terms (t ∷ []) ∙ ap (λ x. x ++ plain t ∷ []) d.meaning ∙ ap (λ p. map (block_statement i) (d.first ∷ d.others) ++ p ∷ []) r.meaning ∙ sym (map-append (block_statement i) (d.first ∷ d.others) (r.block ∷ []));
+  meaning = map-append statement terms (t ∷ []) ∙ ap (λ x. x ++ statement t ∷ []) d.meaning ∙ ap (λ p. map (block_statement i) (d.first ∷ d.others) ++ p ∷ []) r.meaning ∙ sym (map-append (block_statement i) (d.first ∷ d.others) (r.block ∷ []));
   built = built_push i terms t d.built r.built;
   few =
-      let n = length-map terms plain in
+      let n = length-map terms statement in
       let m = length-map (d.first ∷ d.others) (block_statement i) in
       let s = ap length d.meaning in
       let k = length-append d.others (r.block ∷ []) in
@@ -117,7 +117,7 @@ domains_many i start front next terms d h m = record { none = λ b others a k l.
     stop : (others more : List Block) → others ≡ d.others ++ more → AreOthers front more → suc (length others) ≤ most_domains → ⊥
     stop others [] e a l = no_end front next h a
     stop others (b ∷ bs) e a l =
-        let n = length-map terms plain in
+        let n = length-map terms statement in
         let p = length-map (d.first ∷ d.others) (block_statement i) in
         let s = ap length d.meaning in
         let q = ap length e in

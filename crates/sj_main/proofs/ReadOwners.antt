@@ -1,5 +1,5 @@
 -- Which domain each signal and channel belongs to.
-use Rattle.std.proofs.Common.{◌≡◌, ◌≢◌, ℕ, zero, suc, ◌+◌, ◌<◌, Bool, true, false, ◌&&◌, ◌||◌, ◌==◌, nat_lt, cond, List, [], ◌∷◌, ◌++◌, length, map, drop, get_or, Option, Some, None, ap, refl, sym, ◌∙◌, subst, append_assoc, arith, add-one, length-append, append-nil, inl, inr, ◌⊎◌, nat_eq}
+use Rattle.std.proofs.Common.{◌≡◌, ◌≢◌, ℕ, zero, suc, ◌+◌, ◌<◌, Bool, true, false, ◌||◌, ◌==◌, cond, List, [], ◌∷◌, ◌++◌, length, map, drop, get_or, Option, Some, None, ap, refl, sym, ◌∙◌, subst, append_assoc, arith, add-one, length-append, append-nil, inl, inr, ◌⊎◌, nat_eq}
 use Rattle.std.proofs.Math.Seq.{drop-cons}
 use Rattle.std.specs.Prelude.{MatchBool}
 use Rattle.std.proofs.lemmas.Bool.Decides.{nat_tests}
@@ -9,13 +9,18 @@ use Rattle.kernel_terms.specs.declared.term.Form as form
 use Rattle.kernel_terms.specs.WellFormed.{stands_in}
 use Rattle.sj_main.specs.declared.reader.owners.Role.{Role}
 use Rattle.sj_main.specs.declared.reader.owners.Role.TheVariants as role
-use Rattle.sj_main.specs.BuiltTerms.{is_int, is_within, AreBuilt}
-use Rattle.domain_core.specs.BuiltForms.{Plain, Nothing, Pause, Emit, Seq, Loop, Send, Receive, sequence, sequence_from, plain}
+use Rattle.sj_main.specs.BuiltTerms.{is_within, AreBuilt}
+use Rattle.kernel_terms.specs.declared.expr.Expr.{Expr}
+use Rattle.kernel_terms.specs.declared.sig_test.SigTest.{SigTest}
+use Rattle.kernel_terms.specs.Expressions.{Expression, Test, expression, test}
+use Rattle.kernel_terms.specs.Statements.{Stmt, Nothing, If, Present, Abort, Suspend, sequence, sequence_from, parallel, parallel_from, statement}
 use Rattle.sj_main.specs.definitions.Programs.{Interface, emits_of, sends_of, receives_of, first_with}
 use Rattle.sj_main.specs.definitions.Accepted.{Uses}
 use Rattle.sj_main.specs.ReadingOwners.{numbers_of, numbers_of_all, is_role, if_role, limit_of, AreBelow, Marked, IsContested, MarksReach, AreOwners, IsShared, OwnersReach, OwnersFound, AreUnowned}
-use Rattle.domain_core.proofs.BuiltLayers.{plain-Seq}
-use Rattle.sj_main.proofs.Lists.{split_first}
+use Rattle.kernel_terms.proofs.Layers.{statement-Seq}
+use Rattle.tick_tree.proofs.Layers.{statement-If, statement-Present, statement-Par, statement-Abort, statement-Suspend}
+use Rattle.tick_tree.proofs.Lists.{split_first}
+use Rattle.sj_main.proofs.BuiltForms.{KeptByForms, by_built_forms}
 
 -- what stands in a list
 
@@ -92,7 +97,7 @@ marked_both d old mid new xs ys a b = record {
     pick n o e false s (inl h) = a.free n o h e
     pick n o e false s (inr h) = b.free n o h (a.is n ∙ ap (λ c. cond c (Some d) (get_or old n None)) s ∙ e)
 
-contested_first : (d : ℕ) (old : List (Option ℕ)) (xs ys : List ℕ) → IsContested d old xs → IsContested d old (xs ++ ys)
+pub contested_first : (d : ℕ) (old : List (Option ℕ)) (xs ys : List ℕ) → IsContested d old xs → IsContested d old (xs ++ ys)
 contested_first d old xs ys c = record { number = c.number; owner = c.owner; stands = stands_both c.number xs ys ∙ or_first (stands_in c.number xs) (stands_in c.number ys) c.stands; owned = c.owned; other = c.other }
 
 contested_second : (d : ℕ) (old mid : List (Option ℕ)) (xs ys : List ℕ) → Marked d old mid xs → IsContested d mid ys → IsContested d old (xs ++ ys)
@@ -140,7 +145,7 @@ claim_owned d n owner old x l is e = claim_by d n owner old (nat_eq owner d) ref
 
 -- of a term
 
-pub numbers-sequence_from : (r : Role) (p : Plain) (ps : List Plain) → numbers_of r (sequence_from p ps) ≡ numbers_of_all r (p ∷ ps)
+pub numbers-sequence_from : (r : Role) (p : Stmt) (ps : List Stmt) → numbers_of r (sequence_from p ps) ≡ numbers_of_all r (p ∷ ps)
 numbers-sequence_from role.Emitter p [] = sym (append-nil (emits_of p))
 numbers-sequence_from role.Sender p [] = sym (append-nil (sends_of p))
 numbers-sequence_from role.Receiver p [] = sym (append-nil (receives_of p))
@@ -153,42 +158,106 @@ numbers-Nothing role.Emitter = refl
 numbers-Nothing role.Sender = refl
 numbers-Nothing role.Receiver = refl
 
-pub numbers-sequence : (r : Role) (ps : List Plain) → numbers_of r (sequence ps) ≡ numbers_of_all r ps
+pub numbers-sequence : (r : Role) (ps : List Stmt) → numbers_of r (sequence ps) ≡ numbers_of_all r ps
 numbers-sequence r [] = numbers-Nothing r
 numbers-sequence r (p ∷ ps) = numbers-sequence_from r p ps
 
-pub numbers-Seq : (r : Role) (t : Term) (v : List Term) → t.form ≡ form.Seq v → numbers_of r (plain t) ≡ numbers_of_all r (map plain v)
-numbers-Seq r t v h = ap (numbers_of r) (plain-Seq t v h) ∙ numbers-sequence r (map plain v)
+pub numbers-Seq : (r : Role) (t : Term) (v : List Term) → t.form ≡ form.Seq v → numbers_of r (statement t) ≡ numbers_of_all r (map statement v)
+numbers-Seq r t v h = ap (numbers_of r) (statement-Seq t v h) ∙ numbers-sequence r (map statement v)
+
+numbers-parallel_from : (r : Role) (p : Stmt) (ps : List Stmt) → numbers_of r (parallel_from p ps) ≡ numbers_of_all r (p ∷ ps)
+numbers-parallel_from role.Emitter p [] = sym (append-nil (emits_of p))
+numbers-parallel_from role.Sender p [] = sym (append-nil (sends_of p))
+numbers-parallel_from role.Receiver p [] = sym (append-nil (receives_of p))
+numbers-parallel_from role.Emitter p (q ∷ ps) = ap (λ l. emits_of p ++ l) (numbers-parallel_from role.Emitter q ps)
+numbers-parallel_from role.Sender p (q ∷ ps) = ap (λ l. sends_of p ++ l) (numbers-parallel_from role.Sender q ps)
+numbers-parallel_from role.Receiver p (q ∷ ps) = ap (λ l. receives_of p ++ l) (numbers-parallel_from role.Receiver q ps)
+
+numbers-parallel : (r : Role) (ps : List Stmt) → numbers_of r (parallel ps) ≡ numbers_of_all r ps
+numbers-parallel r [] = numbers-Nothing r
+numbers-parallel r (p ∷ ps) = numbers-parallel_from r p ps
+
+pub numbers-Par : (r : Role) (t : Term) (v : List Term) → t.form ≡ form.Par v → numbers_of r (statement t) ≡ numbers_of_all r (map statement v)
+numbers-Par r t v h = ap (numbers_of r) (statement-Par t v h) ∙ numbers-parallel r (map statement v)
+
+of_branches : (r : Role) (e : Expression) (p q : Stmt) → numbers_of r (If e p q) ≡ numbers_of r p ++ numbers_of r q
+of_branches role.Emitter e p q = refl
+of_branches role.Sender e p q = refl
+of_branches role.Receiver e p q = refl
+
+pub numbers-If : (r : Role) (t : Term) (e : Expr) (p q : Term) → t.form ≡ form.If e p q → numbers_of r (statement t) ≡ numbers_of r (statement p) ++ numbers_of r (statement q)
+numbers-If r t e p q h = ap (numbers_of r) (statement-If t e p q h) ∙ of_branches r (expression e) (statement p) (statement q)
+
+of_cases : (r : Role) (u : Test) (p q : Stmt) → numbers_of r (Present u p q) ≡ numbers_of r p ++ numbers_of r q
+of_cases role.Emitter u p q = refl
+of_cases role.Sender u p q = refl
+of_cases role.Receiver u p q = refl
+
+pub numbers-Present : (r : Role) (t : Term) (u : SigTest) (p q : Term) → t.form ≡ form.Present u p q → numbers_of r (statement t) ≡ numbers_of r (statement p) ++ numbers_of r (statement q)
+numbers-Present r t u p q h = ap (numbers_of r) (statement-Present t u p q h) ∙ of_cases r (test u) (statement p) (statement q)
+
+of_aborted : (r : Role) (weak armed : Bool) (u : Test) (p : Stmt) → numbers_of r (Abort weak armed u p) ≡ numbers_of r p
+of_aborted role.Emitter weak armed u p = refl
+of_aborted role.Sender weak armed u p = refl
+of_aborted role.Receiver weak armed u p = refl
+
+pub numbers-Abort : (r : Role) (t : Term) (weak immediate : Bool) (u : SigTest) (p : Term) → t.form ≡ form.Abort weak immediate u p → numbers_of r (statement t) ≡ numbers_of r (statement p)
+numbers-Abort r t weak immediate u p h = ap (numbers_of r) (statement-Abort t weak immediate u p h) ∙ of_aborted r weak immediate (test u) (statement p)
+
+of_suspended : (r : Role) (armed : Bool) (u : Test) (p : Stmt) → numbers_of r (Suspend armed u p) ≡ numbers_of r p
+of_suspended role.Emitter armed u p = refl
+of_suspended role.Sender armed u p = refl
+of_suspended role.Receiver armed u p = refl
+
+pub numbers-Suspend : (r : Role) (t : Term) (u : SigTest) (p : Term) → t.form ≡ form.Suspend u p → numbers_of r (statement t) ≡ numbers_of r (statement p)
+numbers-Suspend r t u p h = ap (numbers_of r) (statement-Suspend t u p h) ∙ of_suspended r false (test u) (statement p)
 
 -- the parts of a sequence, one after another
 
-pub marks_start : (r : Role) (d : ℕ) (old : List (Option ℕ)) (all : List Term) → AreBelow (numbers_of_all r (map plain all)) (length old) → MarksReach r d old old all all
+pub marks_start : (r : Role) (d : ℕ) (old : List (Option ℕ)) (all : List Term) → AreBelow (numbers_of_all r (map statement all)) (length old) → MarksReach r d old old all all
 marks_start r d old all b = record { done = []; parts = refl; marked = marked_none d old; within = b }
 
-pub marks_more : (r : Role) (d : ℕ) (old mid new : List (Option ℕ)) (all front rest : List Term) (p : Plain) → map plain front ≡ p ∷ map plain rest → MarksReach r d old mid all front → Marked d mid new (numbers_of r p) → MarksReach r d old new all rest
+pub marks_more : (r : Role) (d : ℕ) (old mid new : List (Option ℕ)) (all front rest : List Term) (p : Stmt) → map statement front ≡ p ∷ map statement rest → MarksReach r d old mid all front → Marked d mid new (numbers_of r p) → MarksReach r d old new all rest
 marks_more r d old mid new all front rest p s m a =
     let e = ap (numbers_of_all r) s in
     record {
       done = m.done ++ numbers_of r p;
-      parts = m.parts ∙ ap (λ l. m.done ++ l) e ∙ sym (append_assoc m.done (numbers_of r p) (numbers_of_all r (map plain rest)));
+      parts = m.parts ∙ ap (λ l. m.done ++ l) e ∙ sym (append_assoc m.done (numbers_of r p) (numbers_of_all r (map statement rest)));
       marked = marked_both d old mid new m.done (numbers_of r p) m.marked a;
-      within = below_second (numbers_of r p) (numbers_of_all r (map plain rest)) (length old) (subst (λ l. AreBelow l (length old)) e m.within);
+      within = below_second (numbers_of r p) (numbers_of_all r (map statement rest)) (length old) (subst (λ l. AreBelow l (length old)) e m.within);
     }
 
-pub marks_stop : (r : Role) (d : ℕ) (old mid : List (Option ℕ)) (all front rest : List Term) (p : Plain) → map plain front ≡ p ∷ map plain rest → MarksReach r d old mid all front → IsContested d mid (numbers_of r p)
-    → IsContested d old (numbers_of_all r (map plain all))
+pub marks_stop : (r : Role) (d : ℕ) (old mid : List (Option ℕ)) (all front rest : List Term) (p : Stmt) → map statement front ≡ p ∷ map statement rest → MarksReach r d old mid all front → IsContested d mid (numbers_of r p)
+    → IsContested d old (numbers_of_all r (map statement all))
 marks_stop r d old mid all front rest p s m c =
     subst (λ l. IsContested d old l) (sym (m.parts ∙ ap (λ l. m.done ++ numbers_of_all r l) s))
-    (contested_second d old mid m.done (numbers_of r p ++ numbers_of_all r (map plain rest)) m.marked (contested_first d mid (numbers_of r p) (numbers_of_all r (map plain rest)) c))
+    (contested_second d old mid m.done (numbers_of r p ++ numbers_of_all r (map statement rest)) m.marked (contested_first d mid (numbers_of r p) (numbers_of_all r (map statement rest)) c))
 
-pub marks_end : (r : Role) (d : ℕ) (old new : List (Option ℕ)) (all front : List Term) → length front ≡ 0 → MarksReach r d old new all front → Marked d old new (numbers_of_all r (map plain all))
+pub marks_end : (r : Role) (d : ℕ) (old new : List (Option ℕ)) (all front : List Term) → length front ≡ 0 → MarksReach r d old new all front → Marked d old new (numbers_of_all r (map statement all))
 marks_end r d old new all [] l m = subst (λ x. Marked d old new x) (sym (m.parts ∙ append-nil m.done)) m.marked
 marks_end r d old new all (t ∷ ts) l m = absurd (omega arith)
 
-pub part_below : (r : Role) (ts : List Term) (i : ℕ) (t : Term) (limit : ℕ) → i < length ts → t ≡ get_or ts i t → AreBelow (numbers_of_all r (map plain (drop i ts))) limit → AreBelow (numbers_of r (plain t)) limit
-part_below r ts i t limit lt is b = below_first (numbers_of r (plain t)) (numbers_of_all r (map plain (drop (i + 1) ts))) limit (subst (λ l. AreBelow l limit) (ap (numbers_of_all r) (split_first ts i t lt is)) b)
+pub part_below : (r : Role) (ts : List Term) (i : ℕ) (t : Term) (limit : ℕ) → i < length ts → t ≡ get_or ts i t → AreBelow (numbers_of_all r (map statement (drop i ts))) limit → AreBelow (numbers_of r (statement t)) limit
+part_below r ts i t limit lt is b = below_first (numbers_of r (statement t)) (numbers_of_all r (map statement (drop (i + 1) ts))) limit (subst (λ l. AreBelow l limit) (ap (numbers_of_all r) (split_first ts i t lt is)) b)
 
-pub ruleset parts_of_sequences = (numbers-Seq)
+-- two statements
+
+pub two_answers : (r : Role) (d : ℕ) (old mid new : List (Option ℕ)) (p q : Stmt) (b : Bool) → Marked d old mid (numbers_of r p) → MatchBool b (Marked d mid new (numbers_of r q)) (IsContested d mid (numbers_of r q))
+    → MatchBool b (Marked d old new (numbers_of r p ++ numbers_of r q)) (IsContested d old (numbers_of r p ++ numbers_of r q))
+two_answers r d old mid new p q true m h = marked_both d old mid new (numbers_of r p) (numbers_of r q) m h
+two_answers r d old mid new p q false m h = contested_second d old mid (numbers_of r p) (numbers_of r q) m h
+
+pub below-If : (r : Role) (t : Term) (e : Expr) (p q : Term) (limit : ℕ) → t.form ≡ form.If e p q → AreBelow (numbers_of r (statement t)) limit → AreBelow (numbers_of r (statement p)) limit
+below-If r t e p q limit h b = below_first (numbers_of r (statement p)) (numbers_of r (statement q)) limit (subst (λ l. AreBelow l limit) (numbers-If r t e p q h) b)
+
+pub below-Present : (r : Role) (t : Term) (u : SigTest) (p q : Term) (limit : ℕ) → t.form ≡ form.Present u p q → AreBelow (numbers_of r (statement t)) limit → AreBelow (numbers_of r (statement p)) limit
+below-Present r t u p q limit h b = below_first (numbers_of r (statement p)) (numbers_of r (statement q)) limit (subst (λ l. AreBelow l limit) (numbers-Present r t u p q h) b)
+
+pub ruleset parts_of_statements = (numbers-If, numbers-Present, numbers-Seq, numbers-Par, below-If, below-Present)
+
+pub ruleset marked_parts = (contested_first, numbers-Abort, numbers-Suspend)
+
+pub ruleset second_parts = (below_second)
 
 pub ruleset first_parts = (split_first, part_below)
 
@@ -196,41 +265,37 @@ pub ruleset mark_steps = (marks_start, marks_more, marks_stop, marks_end)
 
 -- domains one after another
 
-below_of : (n limit : ℕ) → nat_lt n limit ≡ true → n < limit
-below_of n limit h = grind (arith, nat_tests)
+below_forms : (r : Role) (i : Interface) → KeptByForms (length i.signals) (length i.channels) (λ p. AreBelow (numbers_of r p) (limit_of r i))
+below_forms role.Emitter i = record {
+  nothing = none_below (length i.signals);
+  pause = none_below (length i.signals);
+  emit = λ s l. one_below s (length i.signals) l;
+  sequence = λ p q a b. below_both (emits_of p) (emits_of q) (length i.signals) a b;
+  loop = λ p a. record { below = a.below };
+  send = λ c n l r. none_below (length i.signals);
+  receive = λ c l. none_below (length i.signals);
+}
+below_forms role.Sender i = record {
+  nothing = none_below (length i.channels);
+  pause = none_below (length i.channels);
+  emit = λ s l. none_below (length i.channels);
+  sequence = λ p q a b. below_both (sends_of p) (sends_of q) (length i.channels) a b;
+  loop = λ p a. record { below = a.below };
+  send = λ c n l r. one_below c (length i.channels) l;
+  receive = λ c l. none_below (length i.channels);
+}
+below_forms role.Receiver i = record {
+  nothing = none_below (length i.channels);
+  pause = none_below (length i.channels);
+  emit = λ s l. none_below (length i.channels);
+  sequence = λ p q a b. below_both (receives_of p) (receives_of q) (length i.channels) a b;
+  loop = λ p a. record { below = a.below };
+  send = λ c n l r. none_below (length i.channels);
+  receive = λ c l. one_below c (length i.channels) l;
+}
 
-both : (a b : Bool) → (a && b) ≡ true → (a ≡ true) × (b ≡ true)
-both true b h = (refl, h)
-both false b h = cc
-
-pub uses_below : (r : Role) (i : Interface) (p : Plain) → is_within (length i.signals) (length i.channels) p ≡ true → AreBelow (numbers_of r p) (limit_of r i)
-uses_below role.Emitter i Nothing h = none_below (length i.signals)
-uses_below role.Emitter i Pause h = none_below (length i.signals)
-uses_below role.Emitter i (Emit n) h = one_below n (length i.signals) (below_of n (length i.signals) h)
-uses_below role.Emitter i (Seq p q) h =
-    let b = both (is_within (length i.signals) (length i.channels) p) (is_within (length i.signals) (length i.channels) q) h in
-    below_both (emits_of p) (emits_of q) (length i.signals) (uses_below role.Emitter i p b.0) (uses_below role.Emitter i q b.1)
-uses_below role.Emitter i (Loop p) h = uses_below role.Emitter i p h
-uses_below role.Emitter i (Send n v) h = none_below (length i.signals)
-uses_below role.Emitter i (Receive n) h = none_below (length i.signals)
-uses_below role.Sender i Nothing h = none_below (length i.channels)
-uses_below role.Sender i Pause h = none_below (length i.channels)
-uses_below role.Sender i (Emit n) h = none_below (length i.channels)
-uses_below role.Sender i (Seq p q) h =
-    let b = both (is_within (length i.signals) (length i.channels) p) (is_within (length i.signals) (length i.channels) q) h in
-    below_both (sends_of p) (sends_of q) (length i.channels) (uses_below role.Sender i p b.0) (uses_below role.Sender i q b.1)
-uses_below role.Sender i (Loop p) h = uses_below role.Sender i p h
-uses_below role.Sender i (Send n v) h = one_below n (length i.channels) (below_of n (length i.channels) (both (nat_lt n (length i.channels)) (is_int v) h).0)
-uses_below role.Sender i (Receive n) h = none_below (length i.channels)
-uses_below role.Receiver i Nothing h = none_below (length i.channels)
-uses_below role.Receiver i Pause h = none_below (length i.channels)
-uses_below role.Receiver i (Emit n) h = none_below (length i.channels)
-uses_below role.Receiver i (Seq p q) h =
-    let b = both (is_within (length i.signals) (length i.channels) p) (is_within (length i.signals) (length i.channels) q) h in
-    below_both (receives_of p) (receives_of q) (length i.channels) (uses_below role.Receiver i p b.0) (uses_below role.Receiver i q b.1)
-uses_below role.Receiver i (Loop p) h = uses_below role.Receiver i p h
-uses_below role.Receiver i (Send n v) h = none_below (length i.channels)
-uses_below role.Receiver i (Receive n) h = one_below n (length i.channels) (below_of n (length i.channels) h)
+pub uses_below : (r : Role) (i : Interface) (p : Stmt) → is_within (length i.signals) (length i.channels) p ≡ true → AreBelow (numbers_of r p) (limit_of r i)
+uses_below r i p h = by_built_forms (length i.signals) (length i.channels) (λ q. AreBelow (numbers_of r q) (limit_of r i)) (below_forms r i) p h
 
 pub stands_none : (r : Role) (n : ℕ) → stands_in n (numbers_of r Nothing) ≡ true → ⊥
 stands_none role.Emitter n h = cc
@@ -239,7 +304,7 @@ stands_none role.Receiver n h = cc
 
 -- a domain more
 
-uses_push : (r : Role) (ps : List Plain) (p : Plain) (d n : ℕ) → Uses (numbers_of r) (ps ++ p ∷ []) d n → ((d < length ps) × Uses (numbers_of r) ps d n) ⊎ ((d ≡ length ps) × (stands_in n (numbers_of r p) ≡ true))
+uses_push : (r : Role) (ps : List Stmt) (p : Stmt) (d n : ℕ) → Uses (numbers_of r) (ps ++ p ∷ []) d n → ((d < length ps) × Uses (numbers_of r) ps d n) ⊎ ((d ≡ length ps) × (stands_in n (numbers_of r p) ≡ true))
 uses_push r [] p zero n h = inr (refl, h)
 uses_push r [] p (suc d) n h = absurd (stands_none r n h)
 uses_push r (q ∷ ps) p zero n h = inl (omega arith, h)
@@ -249,12 +314,12 @@ uses_push r (q ∷ ps) p (suc d) n h = one_more (uses_push r ps p d n h)
     one_more (inl x) = let l = x.0 in inl (omega arith, x.1)
     one_more (inr x) = inr (ap suc x.0, x.1)
 
-uses_left : (r : Role) (ps qs : List Plain) (d n : ℕ) → Uses (numbers_of r) ps d n → Uses (numbers_of r) (ps ++ qs) d n
+uses_left : (r : Role) (ps qs : List Stmt) (d n : ℕ) → Uses (numbers_of r) ps d n → Uses (numbers_of r) (ps ++ qs) d n
 uses_left r [] qs d n h = absurd (stands_none r n h)
 uses_left r (p ∷ ps) qs zero n h = h
 uses_left r (p ∷ ps) qs (suc d) n h = uses_left r ps qs d n h
 
-pub uses_here : (r : Role) (ps qs : List Plain) (p : Plain) (n : ℕ) → stands_in n (numbers_of r p) ≡ true → Uses (numbers_of r) (ps ++ p ∷ qs) (length ps) n
+pub uses_here : (r : Role) (ps qs : List Stmt) (p : Stmt) (n : ℕ) → stands_in n (numbers_of r p) ≡ true → Uses (numbers_of r) (ps ++ p ∷ qs) (length ps) n
 uses_here r [] qs p n h = h
 uses_here r (q ∷ ps) qs p n h = uses_here r ps qs p n h
 
@@ -267,7 +332,7 @@ unfolding or_else
 first_at_head true k m rest first last h = refl
 first_at_head false k m rest first last h = h
 
-first_push : (r : Role) (n k : ℕ) (ps : List Plain) (p : Plain) → first_with (numbers_of r) n k (ps ++ p ∷ []) ≡ or_else (first_with (numbers_of r) n k ps) (cond (stands_in n (numbers_of r p)) (Some (k + length ps)) None)
+first_push : (r : Role) (n k : ℕ) (ps : List Stmt) (p : Stmt) → first_with (numbers_of r) n k (ps ++ p ∷ []) ≡ or_else (first_with (numbers_of r) n k ps) (cond (stands_in n (numbers_of r p)) (Some (k + length ps)) None)
 unfolding or_else
 first_push r n k [] p = let e : k ≡ k + 0 = omega arith in ap (λ m. cond (stands_in n (numbers_of r p)) (Some m) None) e
 first_push r n k (q ∷ ps) p =
@@ -282,7 +347,7 @@ now_or_before true d (Some e) f = ap Some (sym (f e refl refl))
 now_or_before false d None f = refl
 now_or_before false d (Some e) f = refl
 
-pub owners_more : (r : Role) (ps : List Plain) (p : Plain) (old new : List (Option ℕ)) → AreOwners r ps old → Marked (length ps) old new (numbers_of r p) → AreOwners r (ps ++ p ∷ []) new
+pub owners_more : (r : Role) (ps : List Stmt) (p : Stmt) (old new : List (Option ℕ)) → AreOwners r ps old → Marked (length ps) old new (numbers_of r p) → AreOwners r (ps ++ p ∷ []) new
 owners_more r ps p old new o m = record { is = is; kept = record { alone = λ n d h. alone n d (uses_push r ps p d n h) } }
   where
     is : (n : ℕ) → get_or new n None ≡ first_with (numbers_of r) n 0 (ps ++ p ∷ [])
@@ -300,18 +365,18 @@ owners_more r ps p old new o m = record { is = is; kept = record { alone = λ n 
     alone n d (inl x) = sym (is n) ∙ stays n d x.0 (o.is n ∙ o.kept.alone n d x.1) (stands_in n (numbers_of r p)) refl
     alone n d (inr x) = sym (is n) ∙ m.is n ∙ ap (λ b. cond b (Some (length ps)) (get_or old n None)) x.1 ∙ ap Some (sym x.0)
 
-abbrev pub Found : Role → ℕ → ℕ → ℕ → List Plain → Type 0
+abbrev pub Found : Role → ℕ → ℕ → ℕ → List Stmt → Type 0
 Found r n k e ps = (j : ℕ) × (e ≡ k + j) × (j < length ps) × Uses (numbers_of r) ps j n
 
-found_here : (r : Role) (n k e : ℕ) (ps : List Plain) (p : Plain) (b : Bool) → stands_in n (numbers_of r p) ≡ b → cond b (Some k) (first_with (numbers_of r) n (suc k) ps) ≡ Some e → (first_with (numbers_of r) n (suc k) ps ≡ Some e → Found r n (suc k) e ps) → Found r n k e (p ∷ ps)
+found_here : (r : Role) (n k e : ℕ) (ps : List Stmt) (p : Stmt) (b : Bool) → stands_in n (numbers_of r p) ≡ b → cond b (Some k) (first_with (numbers_of r) n (suc k) ps) ≡ Some e → (first_with (numbers_of r) n (suc k) ps ≡ Some e → Found r n (suc k) e ps) → Found r n k e (p ∷ ps)
 found_here r n k e ps p true s h f = let a : k ≡ e = some_same k e h in (0, omega arith, omega arith, s)
 found_here r n k e ps p false s h f = let x = f h in let a = x.1 in let b = x.2 in (suc x.0, omega arith, omega arith, x.3)
 
-pub first_uses : (r : Role) (n k e : ℕ) (ps : List Plain) → first_with (numbers_of r) n k ps ≡ Some e → Found r n k e ps
+pub first_uses : (r : Role) (n k e : ℕ) (ps : List Stmt) → first_with (numbers_of r) n k ps ≡ Some e → Found r n k e ps
 first_uses r n k e [] h = cc
 first_uses r n k e (p ∷ ps) h = found_here r n k e ps p (stands_in n (numbers_of r p)) refl h (λ g. first_uses r n (suc k) e ps g)
 
-pub owners_shared : (r : Role) (ps qs : List Plain) (p : Plain) (old : List (Option ℕ)) → AreOwners r ps old → IsContested (length ps) old (numbers_of r p) → IsShared r (ps ++ p ∷ qs)
+pub owners_shared : (r : Role) (ps qs : List Stmt) (p : Stmt) (old : List (Option ℕ)) → AreOwners r ps old → IsContested (length ps) old (numbers_of r p) → IsShared r (ps ++ p ∷ qs)
 owners_shared r ps qs p old o c =
     let f = first_uses r c.number 0 c.owner ps (sym (o.is c.number) ∙ c.owned) in
     record {
@@ -333,33 +398,33 @@ owners_start r i all owners b e s = record {
   built = b;
 }
 
-pub owners_within : (r : Role) (i : Interface) (all front rest : List Term) (t : Term) (owners : List (Option ℕ)) (d : ℕ) → front ≡ t ∷ rest → OwnersReach r i all front owners d → AreBelow (numbers_of r (plain t)) (length owners)
+pub owners_within : (r : Role) (i : Interface) (all front rest : List Term) (t : Term) (owners : List (Option ℕ)) (d : ℕ) → front ≡ t ∷ rest → OwnersReach r i all front owners d → AreBelow (numbers_of r (statement t)) (length owners)
 owners_within r i all front rest t owners d s o =
     let b = subst (λ x. AreBuilt i x) s o.built in
-    subst (λ n. AreBelow (numbers_of r (plain t)) n) (sym o.size) (uses_below r i (plain t) b.0.uses)
+    subst (λ n. AreBelow (numbers_of r (statement t)) n) (sym o.size) (uses_below r i (statement t) b.0.uses)
 
-pub owners_step : (r : Role) (i : Interface) (all front rest : List Term) (t : Term) (old new : List (Option ℕ)) (d : ℕ) → front ≡ t ∷ rest → OwnersReach r i all front old d → Marked d old new (numbers_of r (plain t)) → OwnersReach r i all rest new (d + 1)
+pub owners_step : (r : Role) (i : Interface) (all front rest : List Term) (t : Term) (old new : List (Option ℕ)) (d : ℕ) → front ≡ t ∷ rest → OwnersReach r i all front old d → Marked d old new (numbers_of r (statement t)) → OwnersReach r i all rest new (d + 1)
 owners_step r i all front rest t old new d s o m =
     let b = subst (λ x. AreBuilt i x) s o.built in
     record {
-      done = o.done ++ plain t ∷ [];
-      parts = o.parts ∙ ap (λ x. o.done ++ map plain x) s ∙ sym (append_assoc o.done (plain t ∷ []) (map plain rest));
-      number = let a = o.number in let c = length-append o.done (plain t ∷ []) in omega arith;
-      found = owners_more r o.done (plain t) old new o.found (subst (λ k. Marked k old new (numbers_of r (plain t))) (sym o.number) m);
+      done = o.done ++ statement t ∷ [];
+      parts = o.parts ∙ ap (λ x. o.done ++ map statement x) s ∙ sym (append_assoc o.done (statement t ∷ []) (map statement rest));
+      number = let a = o.number in let c = length-append o.done (statement t ∷ []) in omega arith;
+      found = owners_more r o.done (statement t) old new o.found (subst (λ k. Marked k old new (numbers_of r (statement t))) (sym o.number) m);
       size = m.size ∙ o.size;
       built = b.1;
     }
 
-pub owners_stop : (r : Role) (i : Interface) (all front rest : List Term) (t : Term) (old : List (Option ℕ)) (d : ℕ) → front ≡ t ∷ rest → OwnersReach r i all front old d → IsContested d old (numbers_of r (plain t)) → IsShared r (map plain all)
+pub owners_stop : (r : Role) (i : Interface) (all front rest : List Term) (t : Term) (old : List (Option ℕ)) (d : ℕ) → front ≡ t ∷ rest → OwnersReach r i all front old d → IsContested d old (numbers_of r (statement t)) → IsShared r (map statement all)
 owners_stop r i all front rest t old d s o c =
-    subst (λ x. IsShared r x) (sym (o.parts ∙ ap (λ x. o.done ++ map plain x) s))
-    (owners_shared r o.done (map plain rest) (plain t) old o.found (subst (λ k. IsContested k old (numbers_of r (plain t))) (sym o.number) c))
+    subst (λ x. IsShared r x) (sym (o.parts ∙ ap (λ x. o.done ++ map statement x) s))
+    (owners_shared r o.done (map statement rest) (statement t) old o.found (subst (λ k. IsContested k old (numbers_of r (statement t))) (sym o.number) c))
 
-pub owners_end : (r : Role) (i : Interface) (all front : List Term) (owners : List (Option ℕ)) (d : ℕ) → length front ≡ 0 → OwnersReach r i all front owners d → AreOwners r (map plain all) owners
+pub owners_end : (r : Role) (i : Interface) (all front : List Term) (owners : List (Option ℕ)) (d : ℕ) → length front ≡ 0 → OwnersReach r i all front owners d → AreOwners r (map statement all) owners
 owners_end r i all [] owners d l o = subst (λ x. AreOwners r x owners) (sym (o.parts ∙ append-nil o.done)) o.found
 owners_end r i all (t ∷ ts) owners d l o = absurd (omega arith)
 
-pub owners_found : (r : Role) (i : Interface) (all front : List Term) (owners : List (Option ℕ)) (d : ℕ) → length front ≡ 0 → OwnersReach r i all front owners d → OwnersFound r i (map plain all) owners
+pub owners_found : (r : Role) (i : Interface) (all front : List Term) (owners : List (Option ℕ)) (d : ℕ) → length front ≡ 0 → OwnersReach r i all front owners d → OwnersFound r i (map statement all) owners
 owners_found r i all front owners d l o = record { are = owners_end r i all front owners d l o; size = o.size }
 
 pub drop_first : (ts : List Term) (i : ℕ) (t : Term) → i < length ts → t ≡ get_or ts i t → drop i ts ≡ t ∷ drop (i + 1) ts

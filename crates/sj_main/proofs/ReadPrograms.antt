@@ -12,7 +12,7 @@ use Rattle.sj_main.specs.declared.token.Token.TheVariants.{Reserved, Sign}
 use Rattle.sj_main.specs.declared.token.Word.TheVariants as word
 use Rattle.sj_main.specs.declared.token.Mark.TheVariants as mark
 use Rattle.sj_main.specs.BuiltTerms.{AreBuilt}
-use Rattle.domain_core.specs.BuiltForms.{plain}
+use Rattle.kernel_terms.specs.Statements.{statement}
 use Rattle.sj_main.specs.definitions.Grammar.{Block, Port, Program, ports_tokens, domain_tokens, others_tokens, program_tokens}
 use Rattle.sj_main.specs.definitions.Programs.{Interface, interface_of, block_statement, domain_statements, tables_for}
 use Rattle.sj_main.specs.definitions.Accepted.{KeepBlocks, KeepsOwners}
@@ -63,7 +63,7 @@ program_domains tokens inner rest i s r n = record {
       (subst (λ x. KeepBlocks x (p.first ∷ p.others)) (sym (interface_is p tokens inner rest i s r h)) k.names.blocks) k.names.domains;
 }
 
-statements_are : (p : Program) (tokens inner rest : List Token) (i : Interface) (terms : List Term) → StartsProgram tokens inner → PortsRead inner i rest → DomainsRead i rest terms → tokens ≡ program_tokens p → domain_statements p ≡ map plain terms
+statements_are : (p : Program) (tokens inner rest : List Token) (i : Interface) (terms : List Term) → StartsProgram tokens inner → PortsRead inner i rest → DomainsRead i rest terms → tokens ≡ program_tokens p → domain_statements p ≡ map statement terms
 statements_are p tokens inner rest i terms s r d h =
     let a = domain_once p.first d.first _ _ (sym (rest_of p tokens inner rest i s r h).1 ∙ d.is.is) in
     let b = others_once p.others d.others [] [] a.1 in
@@ -72,10 +72,10 @@ statements_are p tokens inner rest i terms s r d h =
     ∙ ap (λ x. block_statement i d.first ∷ map (block_statement i) x) b.0
     ∙ sym d.meaning
 
-pub program_owners : (tokens inner rest : List Token) (i : Interface) (terms : List Term) → StartsProgram tokens inner → PortsRead inner i rest → DomainsRead i rest terms → BreaksOwners i (map plain terms) → NoProgram tokens
+pub program_owners : (tokens inner rest : List Token) (i : Interface) (terms : List Term) → StartsProgram tokens inner → PortsRead inner i rest → DomainsRead i rest terms → BreaksOwners i (map statement terms) → NoProgram tokens
 program_owners tokens inner rest i terms s r d b = record {
   none = λ p h k.
-      b.none (subst (λ x. KeepsOwners x (map plain terms)) (sym (interface_is p tokens inner rest i s r h))
+      b.none (subst (λ x. KeepsOwners x (map statement terms)) (sym (interface_is p tokens inner rest i s r h))
       (subst (λ x. KeepsOwners (interface_of p.ports) x) (statements_are p tokens inner rest i terms s r d h) k.owners));
 }
 
@@ -89,20 +89,20 @@ tokens_are tokens inner rest i terms s r d =
     (r.is.is ∙ ap (λ l. ports_tokens r.ports (Sign mark.CloseBrace ∷ l)) d.is.is)
 
 count_of_terms : (i : Interface) (rest : List Token) (terms : List Term) → (d : DomainsRead i rest terms) → length terms ≡ length (d.first ∷ d.others)
-count_of_terms i rest terms d = sym (length-map terms plain) ∙ ap length d.meaning ∙ length-map (d.first ∷ d.others) (block_statement i)
+count_of_terms i rest terms d = sym (length-map terms statement) ∙ ap length d.meaning ∙ length-map (d.first ∷ d.others) (block_statement i)
 
 pub few_terms : (i : Interface) (rest : List Token) (terms : List Term) → DomainsRead i rest terms → length terms ≤ 16
 few_terms i rest terms d = let a = count_of_terms i rest terms d in let b = d.few in omega arith
 
 pub program_formed : (tokens inner rest : List Token) (i : Interface) (terms : List Term) (tables : Tables) → PortsAreNamed tokens → StartsProgram tokens inner → PortsRead inner i rest → length i.channels ≤ most_channels → DomainsRead i rest terms
-    → AreTablesOf i (map plain terms) tables → is_well_formed tables terms ≡ true
+    → AreTablesOf i (map statement terms) tables → is_well_formed tables terms ≡ true
 program_formed tokens inner rest i terms tables n s r c d a =
     let count = count_of_terms i rest terms d in
     let few = d.few in
     well_formed i r.ports terms tables r.interface (n.named (program_of r.ports d.first d.others) (tokens_are tokens inner rest i terms s r d)) r.distinct c (omega arith) (omega arith) d.built a
 
 pub program_read : (tokens inner rest : List Token) (i : Interface) (terms : List Term) (tables : Tables) (system : System) → StartsProgram tokens inner → PortsRead inner i rest → length i.channels ≤ most_channels → DomainsRead i rest terms
-    → AreTablesOf i (map plain terms) tables → tables_of system ≡ tables → domains_of system ≡ terms → IsReadFrom tokens system
+    → AreTablesOf i (map statement terms) tables → tables_of system ≡ tables → domains_of system ≡ terms → IsReadFrom tokens system
 program_read tokens inner rest i terms tables system s r c d a t e = record {
   program = program_of r.ports d.first d.others;
   is = tokens_are tokens inner rest i terms s r d;
@@ -116,7 +116,7 @@ program_read tokens inner rest i terms tables system s r c d a t e = record {
     owners = subst (λ x. KeepsOwners x (map (block_statement x) (d.first ∷ d.others))) r.interface (subst (λ x. KeepsOwners i x) d.meaning a.keeps);
   };
   tables = t ∙ a.is ∙ ap (tables_for i) d.meaning ∙ ap (λ x. tables_for x (map (block_statement x) (d.first ∷ d.others))) r.interface;
-  domains = ap (map plain) e ∙ d.meaning ∙ ap (λ x. map (block_statement x) (d.first ∷ d.others)) r.interface;
+  domains = ap (map statement) e ∙ d.meaning ∙ ap (λ x. map (block_statement x) (d.first ∷ d.others)) r.interface;
   built = subst (λ x. AreBuilt x (domains_of system)) r.interface (subst (λ x. AreBuilt i x) (sym e) d.built);
 }
 

@@ -3,15 +3,15 @@ use Rattle.std.proofs.Common.{◌≡◌, ℕ, zero, suc, ◌+◌, ◌≤◌, ℤ
 use Rattle.std.specs.List.{list_all, prefix_len, take_while}
 use Rattle.java_values.specs.Names.{is_letter, is_word_byte, is_name}
 use Rattle.kernel_terms.specs.declared.system.System.{System}
-use Rattle.domain_core.specs.BuiltForms.{Plain, Nothing, sequence, sequence_from}
+use Rattle.kernel_terms.specs.Statements.{Stmt, Nothing, sequence, sequence_from}
 use Rattle.sj_main.specs.declared.token.Token.{Token}
 use Rattle.sj_main.specs.declared.token.Token.TheVariants.{Sign, Name}
 use Rattle.sj_main.specs.declared.token.Mark.TheVariants as mark
-use Rattle.domain_core.specs.BuiltLimits.{size_of}
+use Rattle.domain_core.specs.definitions.step.Built.{size_of}
 use Rattle.sj_main.specs.definitions.Tokens.{skip_white, next_token, with_rest, word_token, run_token, literal_value, as_number, sign_token, sign_front, Spells}
 use Rattle.sj_main.specs.definitions.Grammar.{Block, Done, EmptyThen, PauseThen, EmitThen, WhileThen, SendThen, ReceiveThen, Port, SignalPort, ChannelPort, Program, block_tokens, port_tokens, ports_tokens, domain_tokens, others_tokens, program_tokens}
 use Rattle.sj_main.specs.definitions.Programs.{Interface, interface_of, parts_of, block_statement, domain_statements}
-use Rattle.sj_main.specs.definitions.Accepted.{port_names}
+use Rattle.sj_main.specs.definitions.Accepted.{port_names, IsSourceOf}
 use Rattle.sj_main.specs.Reading.{IsReadAs, IsUnreadable}
 use Rattle.sj_main.specs.ReadingTokens.{SpellsNothing}
 use Rattle.sj_main.specs.ReadingPrograms.{PortsAreNamed, IsReadFrom, NoProgram}
@@ -93,16 +93,16 @@ pub spelled_small : (bytes : List ℕ) (tokens : List Token) → Spells bytes to
 spelled_small bytes tokens s l = let a = spelled_length bytes tokens s in omega arith
 
 -- how large the statements are
-total : List Plain → ℕ
+total : List Stmt → ℕ
 total [] = 0
 total (p ∷ ps) = size_of p + total ps
 
-size_from : (p : Plain) (ps : List Plain) → size_of (sequence_from p ps) ≡ size_of p + total ps
+size_from : (p : Stmt) (ps : List Stmt) → size_of (sequence_from p ps) ≡ size_of p + total ps
 unfolding total
 size_from p [] = omega arith
 size_from p (q ∷ qs) = ap (λ n. size_of p + n) (size_from q qs)
 
-size_sequence : (ps : List Plain) → size_of (sequence ps) ≤ total ps + 1
+size_sequence : (ps : List Stmt) → size_of (sequence ps) ≤ total ps + 1
 unfolding total
 size_sequence [] = omega arith
 size_sequence (p ∷ ps) = let e = size_from p ps in omega arith
@@ -171,3 +171,6 @@ unreadable_bytes bytes n = λ p s k. n.none (program_tokens p) s
 
 pub unreadable_tokens : (bytes : List ℕ) (tokens : List Token) → Spells bytes tokens → NoProgram tokens → IsUnreadable bytes
 unreadable_tokens bytes tokens s n = λ p q k. n.none p (spells_once bytes tokens (program_tokens p) s q) k
+
+pub source_once : (bytes : List ℕ) (p q : Program) → IsSourceOf bytes p → IsSourceOf bytes q → p ≡ q
+source_once bytes p q a b = program_once p q (spells_once bytes (program_tokens p) (program_tokens q) a.spells b.spells)

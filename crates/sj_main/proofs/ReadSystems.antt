@@ -16,19 +16,19 @@ use Rattle.kernel_terms.specs.declared.tables.Sort.TheVariants.{Output}
 use Rattle.kernel_terms.specs.declared.tables.Combine.TheVariants.{Max}
 use Rattle.kernel_terms.specs.TableEntries.{is_input, is_local, is_interface_of, variables_of, numbers_where, no_signal, no_channel}
 use Rattle.kernel_terms.specs.Limits.{most_domains, most_channels, most_signals, most_variables}
+use Rattle.kernel_terms.specs.Expressions.{Literal}
+use Rattle.kernel_terms.specs.Statements.{Stmt, Emit, Send, Receive, statement}
 use Rattle.kernel_terms.specs.WellFormed as well
 use Rattle.kernel_terms.specs.WellFormed.{interface_names, has_names, is_within_limits, has_entries, has_parts, fit_statements, declares_each_once, declared_by, declared_by_all, fits_statement, Scope, is_well_formed, stands_in, all_below, signals_of}
-use Rattle.kernel_terms.specs.Statements.{statement}
-use Rattle.domain_core.proofs.BuiltTrees.{built_stands}
 use Rattle.sj_main.specs.declared.reader.owners.Role.{Role}
 use Rattle.sj_main.specs.declared.reader.owners.Role.TheVariants as role
 use Rattle.sj_main.specs.BuiltTerms.{is_int, is_within, AreBuilt}
-use Rattle.domain_core.specs.BuiltForms.{Plain, Nothing, Pause, Emit, Seq, Loop, Send, Receive, plain, whole}
 use Rattle.sj_main.specs.definitions.Grammar.{Port, SignalPort, ChannelPort}
 use Rattle.sj_main.specs.definitions.Programs.{Interface, interface_of, signal_names, channel_names, emits_of, sends_of, receives_of, first_with, owner_of, signals_from, channels_from, tables_for}
 use Rattle.sj_main.specs.definitions.Accepted.{port_names, Uses, KeepsOwners}
 use Rattle.sj_main.specs.ReadingOwners.{numbers_of, HasOwners, AreTablesOf}
 use Rattle.sj_main.proofs.ReadNames.{distinct_names}
+use Rattle.sj_main.proofs.BuiltForms.{KeptByForms, by_built_forms}
 use Rattle.sj_main.proofs.ReadOwners.{first_uses, uses_here}
 
 le_true : (a b : ℕ) → a ≤ b → nat_le a b ≡ true
@@ -90,7 +90,7 @@ channel_ports (ChannelPort n ∷ ports) h =
     let b = both (is_name n) (list_all is_name (port_names ports)) h in
     and_true (is_channel_name n) (list_all is_channel_name (channel_names ports)) (or_first (is_name n) (is_name (before_dot n) && is_place (after_dot n)) b.0) (channel_ports ports b.1)
 
-names_hold : (ports : List Port) (ps : List Plain) → list_all is_name (port_names ports) ≡ true → are_distinct (port_names ports) ≡ true → has_names (tables_for (interface_of ports) ps) ≡ true
+names_hold : (ports : List Port) (ps : List Stmt) → list_all is_name (port_names ports) ≡ true → are_distinct (port_names ports) ≡ true → has_names (tables_for (interface_of ports) ps) ≡ true
 names_hold ports ps n d =
     let e = names_are (owner_of emits_of ps) 0 (signal_names ports) in
     let g = channels_are (owner_of sends_of ps) (owner_of receives_of ps) 0 (channel_names ports) in
@@ -111,7 +111,7 @@ channels_count : (f g : ℕ → ℕ) (k : ℕ) (names : List (List ℕ)) → len
 channels_count f g k [] = refl
 channels_count f g k (n ∷ ns) = ap suc (channels_count f g (suc k) ns)
 
-limits_hold : (i : Interface) (ps : List Plain) (n : ℕ) → n ≡ length ps → n ≤ most_domains → length i.channels ≤ most_channels → KeepsOwners i ps → is_within_limits (tables_for i ps) n ≡ true
+limits_hold : (i : Interface) (ps : List Stmt) (n : ℕ) → n ≡ length ps → n ≤ most_domains → length i.channels ≤ most_channels → KeepsOwners i ps → is_within_limits (tables_for i ps) n ≡ true
 limits_hold i ps n e l c k =
     let t = tables_for i ps in
     let few = all_true (λ d. nat_le (length (signals_of t d)) most_signals && nat_le (length (variables_of t d)) most_variables) n
@@ -141,13 +141,13 @@ owner_some : (o : Option ℕ) (n : ℕ) → 1 ≤ n → ((e : ℕ) → o ≡ Som
 owner_some None n l h = omega arith
 owner_some (Some e) n l h = h e refl
 
-owner_within : (r : Role) (ps : List Plain) (s : ℕ) → 1 ≤ length ps → owner_of (numbers_of r) ps s < length ps
+owner_within : (r : Role) (ps : List Stmt) (s : ℕ) → 1 ≤ length ps → owner_of (numbers_of r) ps s < length ps
 owner_within r ps s l = owner_some (first_with (numbers_of r) s 0 ps) (length ps) l (λ e h. (let f = first_uses r s 0 e ps h in let a = f.1 in let b = f.2 in omega arith))
 
-owner_found : (r : Role) (ps : List Plain) (s d : ℕ) → HasOwners r ps → Uses (numbers_of r) ps d s → owner_of (numbers_of r) ps s ≡ d
+owner_found : (r : Role) (ps : List Stmt) (s d : ℕ) → HasOwners r ps → Uses (numbers_of r) ps d s → owner_of (numbers_of r) ps s ≡ d
 owner_found r ps s d h u = ap (λ o. unwrap_or o 0) (h.alone s d u)
 
-entries_hold : (i : Interface) (ps : List Plain) → 1 ≤ length ps → KeepsOwners i ps → HasOwners role.Sender ps → HasOwners role.Receiver ps → has_entries (tables_for i ps) (length ps) ≡ true
+entries_hold : (i : Interface) (ps : List Stmt) → 1 ≤ length ps → KeepsOwners i ps → HasOwners role.Sender ps → HasOwners role.Receiver ps → has_entries (tables_for i ps) (length ps) ≡ true
 entries_hold i ps l k s r =
     let t = tables_for i ps in
     and_true (list_all (well.is_signal_entry (length ps)) t.signals) _ (signal_entries (owner_of emits_of ps) (length ps) 0 i.signals (λ n. owner_within role.Emitter ps n l))
@@ -172,14 +172,14 @@ channel_is f g k (n ∷ ns) (suc c) h = let e : suc k + c ≡ k + suc c = omega 
 abbrev scope_of : ℕ → Scope
 scope_of d = record { domain = d; traps = 0; locals = [] }
 
-emits : (i : Interface) (ps : List Plain) (d s : ℕ) → s < length i.signals → owner_of emits_of ps s ≡ d → fits_statement (tables_for i ps) (scope_of d) (whole (Emit s)) ≡ true
+emits : (i : Interface) (ps : List Stmt) (d s : ℕ) → s < length i.signals → owner_of emits_of ps s ≡ d → fits_statement (tables_for i ps) (scope_of d) (Emit s None) ≡ true
 emits i ps d s l o =
     let z : 0 + s ≡ s = omega arith in
     let P : SignalInfo → Type 0 = λ x. (((is_interface_of d x || stands_in s []) && not (is_input x.sort)) && well.is_emission (tables_for i ps) (scope_of d) x.kind None) ≡ true in
     subst P (sym (signal_is (owner_of emits_of ps) 0 i.signals s l))
     (ap (λ b. (((b && true) || false) && true) && true) (eq_true (owner_of emits_of ps (0 + s)) d (ap (owner_of emits_of ps) z ∙ o)))
 
-sends : (i : Interface) (ps : List Plain) (d c : ℕ) (n : ℤ) → c < length i.channels → is_int n ≡ true → owner_of sends_of ps c ≡ d → fits_statement (tables_for i ps) (scope_of d) (whole (Send c n)) ≡ true
+sends : (i : Interface) (ps : List Stmt) (d c : ℕ) (n : ℤ) → c < length i.channels → is_int n ≡ true → owner_of sends_of ps c ≡ d → fits_statement (tables_for i ps) (scope_of d) (Send c (Literal Int n)) ≡ true
 sends i ps d c n l r o =
     let z : 0 + c ≡ c = omega arith in
     let t = tables_for i ps in
@@ -190,7 +190,7 @@ sends i ps d c n l r o =
     (and_true (nat_lt c (length t.channels)) (owner_of sends_of ps (0 + c) == d) (lt_true c (length t.channels) (omega arith)) (eq_true (owner_of sends_of ps (0 + c)) d (ap (owner_of sends_of ps) z ∙ o)))
     (and_true (is_int n) true r refl))
 
-receives : (i : Interface) (ps : List Plain) (d c : ℕ) → c < length i.channels → owner_of receives_of ps c ≡ d → fits_statement (tables_for i ps) (scope_of d) (whole (Receive c)) ≡ true
+receives : (i : Interface) (ps : List Stmt) (d c : ℕ) → c < length i.channels → owner_of receives_of ps c ≡ d → fits_statement (tables_for i ps) (scope_of d) (Receive c) ≡ true
 receives i ps d c l o =
     let z : 0 + c ≡ c = omega arith in
     let t = tables_for i ps in
@@ -200,7 +200,7 @@ receives i ps d c l o =
     (and_true (nat_lt c (length t.channels)) (owner_of receives_of ps (0 + c) == d) (lt_true c (length t.channels) (omega arith)) (eq_true (owner_of receives_of ps (0 + c)) d (ap (owner_of receives_of ps) z ∙ o)))
 
 -- the numbers of a statement belong to the domain
-record Owns (ps : List Plain) (d : ℕ) (p : Plain) : Type 0 where
+record Owns (ps : List Stmt) (d : ℕ) (p : Stmt) : Type 0 where
   emits : (n : ℕ) → stands_in n (emits_of p) ≡ true → owner_of emits_of ps n ≡ d
   sends : (n : ℕ) → stands_in n (sends_of p) ≡ true → owner_of sends_of ps n ≡ d
   receives : (n : ℕ) → stands_in n (receives_of p) ≡ true → owner_of receives_of ps n ≡ d
@@ -217,50 +217,61 @@ in_second n xs ys h = stands_both n xs ys ∙ or_second (stands_in n xs) (stands
 is_itself : (n : ℕ) → ((n == n) || false) ≡ true
 is_itself n = grind (arith, nat_tests)
 
-fits_plain : (i : Interface) (ps : List Plain) (d : ℕ) (p : Plain) → is_within (length i.signals) (length i.channels) p ≡ true → Owns ps d p → fits_statement (tables_for i ps) (scope_of d) (whole p) ≡ true
-fits_plain i ps d Nothing b o = refl
-fits_plain i ps d Pause b o = refl
-fits_plain i ps d (Emit s) b o = emits i ps d s (lt_of s (length i.signals) b) (o.emits s (is_itself s))
-fits_plain i ps d (Seq p q) b o =
-    let c = both (is_within (length i.signals) (length i.channels) p) (is_within (length i.signals) (length i.channels) q) b in
-    and_true (fits_statement (tables_for i ps) (scope_of d) (whole p)) (fits_statement (tables_for i ps) (scope_of d) (whole q))
-    (fits_plain i ps d p c.0 (record { emits = λ n h. o.emits n (in_first n (emits_of p) (emits_of q) h); sends = λ n h. o.sends n (in_first n (sends_of p) (sends_of q) h); receives = λ n h. o.receives n (in_first n (receives_of p) (receives_of q) h) }))
-    (fits_plain i ps d q c.1 (record { emits = λ n h. o.emits n (in_second n (emits_of p) (emits_of q) h); sends = λ n h. o.sends n (in_second n (sends_of p) (sends_of q) h); receives = λ n h. o.receives n (in_second n (receives_of p) (receives_of q) h) }))
-fits_plain i ps d (Loop p) b o = fits_plain i ps d p b (record { emits = o.emits; sends = o.sends; receives = o.receives })
-fits_plain i ps d (Send c n) b o =
-    let a = both (nat_lt c (length i.channels)) (is_int n) b in
-    sends i ps d c n (lt_of c (length i.channels) a.0) a.1 (o.sends c (is_itself c))
-fits_plain i ps d (Receive c) b o = receives i ps d c (lt_of c (length i.channels) b) (o.receives c (is_itself c))
+-- where its numbers belong to the domain, the statement keeps the rules there
+abbrev Fits : Interface → List Stmt → ℕ → Stmt → Type 0
+Fits i ps d p = Owns ps d p → fits_statement (tables_for i ps) (scope_of d) p ≡ true
 
-fits_from : (i : Interface) (ps done : List Plain) (ts : List Term) → ps ≡ done ++ map plain ts → AreBuilt i ts → HasOwners role.Emitter ps → HasOwners role.Sender ps → HasOwners role.Receiver ps
+fit_forms : (i : Interface) (ps : List Stmt) (d : ℕ) → KeptByForms (length i.signals) (length i.channels) (Fits i ps d)
+fit_forms i ps d = record {
+  nothing = λ o. refl;
+  pause = λ o. refl;
+  emit = λ s l o. emits i ps d s l (o.emits s (is_itself s));
+  sequence = λ p q f g o.
+      and_true (fits_statement (tables_for i ps) (scope_of d) p) (fits_statement (tables_for i ps) (scope_of d) q)
+      (f (record { emits = λ n h. o.emits n (in_first n (emits_of p) (emits_of q) h); sends = λ n h. o.sends n (in_first n (sends_of p) (sends_of q) h); receives = λ n h. o.receives n (in_first n (receives_of p) (receives_of q) h) }))
+      (g (record { emits = λ n h. o.emits n (in_second n (emits_of p) (emits_of q) h); sends = λ n h. o.sends n (in_second n (sends_of p) (sends_of q) h); receives = λ n h. o.receives n (in_second n (receives_of p) (receives_of q) h) }));
+  loop = λ p f o. f (record { emits = o.emits; sends = o.sends; receives = o.receives });
+  send = λ c n l r o. sends i ps d c n l r (o.sends c (is_itself c));
+  receive = λ c l o. receives i ps d c l (o.receives c (is_itself c));
+}
+
+fits_built : (i : Interface) (ps : List Stmt) (d : ℕ) (p : Stmt) → is_within (length i.signals) (length i.channels) p ≡ true → Fits i ps d p
+fits_built i ps d = by_built_forms (length i.signals) (length i.channels) (Fits i ps d) (fit_forms i ps d)
+
+fits_from : (i : Interface) (ps done : List Stmt) (ts : List Term) → ps ≡ done ++ map statement ts → AreBuilt i ts → HasOwners role.Emitter ps → HasOwners role.Sender ps → HasOwners role.Receiver ps
     → fit_statements (tables_for i ps) (length done) (map statement ts) ≡ true
 fits_from i ps done [] e b em se re = refl
 fits_from i ps done (t ∷ ts) e b em se re =
-    let here = λ (r : Role) (h : HasOwners r ps) (n : ℕ) (s : stands_in n (numbers_of r (plain t)) ≡ true). owner_found r ps n (length done) h (subst (λ x. Uses (numbers_of r) x (length done) n) (sym e) (uses_here r done (map plain ts) (plain t) n s)) in
-    let l : length (done ++ plain t ∷ []) ≡ suc (length done) = (let x = length-append done (plain t ∷ []) in omega arith) in
-    let later = fits_from i ps (done ++ plain t ∷ []) ts (e ∙ sym (append_assoc done (plain t ∷ []) (map plain ts))) b.1 em se re in
+    let here = λ (r : Role) (h : HasOwners r ps) (n : ℕ) (s : stands_in n (numbers_of r (statement t)) ≡ true). owner_found r ps n (length done) h (subst (λ x. Uses (numbers_of r) x (length done) n) (sym e) (uses_here r done (map statement ts) (statement t) n s)) in
+    let l : length (done ++ statement t ∷ []) ≡ suc (length done) = (let x = length-append done (statement t ∷ []) in omega arith) in
+    let later = fits_from i ps (done ++ statement t ∷ []) ts (e ∙ sym (append_assoc done (statement t ∷ []) (map statement ts))) b.1 em se re in
     and_true (fits_statement (tables_for i ps) (scope_of (length done)) (statement t)) (fit_statements (tables_for i ps) (suc (length done)) (map statement ts))
-    (ap (fits_statement (tables_for i ps) (scope_of (length done))) (built_stands t b.0.forms) ∙ fits_plain i ps (length done) (plain t) b.0.uses (record { emits = here role.Emitter em; sends = here role.Sender se; receives = here role.Receiver re }))
+    (fits_built i ps (length done) (statement t) b.0.uses (record { emits = here role.Emitter em; sends = here role.Sender se; receives = here role.Receiver re }))
     (ap (λ k. fit_statements (tables_for i ps) k (map statement ts)) (sym l) ∙ later)
 
-declares_none : (p : Plain) → declared_by (whole p) ≡ []
-declares_none Nothing = refl
-declares_none Pause = refl
-declares_none (Emit s) = refl
-declares_none (Seq p q) = ap (λ l. l ++ declared_by (whole q)) (declares_none p) ∙ declares_none q
-declares_none (Loop p) = declares_none p
-declares_none (Send c n) = refl
-declares_none (Receive c) = refl
+declaring_forms : (signals channels : ℕ) → KeptByForms signals channels (λ p. declared_by p ≡ [])
+declaring_forms signals channels = record {
+  nothing = refl;
+  pause = refl;
+  emit = λ s l. refl;
+  sequence = λ p q a b. ap (λ l. l ++ declared_by q) a ∙ b;
+  loop = λ p a. a;
+  send = λ c n l r. refl;
+  receive = λ c l. refl;
+}
+
+declares_none : (i : Interface) (p : Stmt) → is_within (length i.signals) (length i.channels) p ≡ true → declared_by p ≡ []
+declares_none i = by_built_forms (length i.signals) (length i.channels) (λ p. declared_by p ≡ []) (declaring_forms (length i.signals) (length i.channels))
 
 declare_none : (i : Interface) (ts : List Term) → AreBuilt i ts → declared_by_all (map statement ts) ≡ []
 declare_none i [] b = refl
-declare_none i (t ∷ ts) b = ap (λ l. l ++ declared_by_all (map statement ts)) (ap declared_by (built_stands t b.0.forms) ∙ declares_none (plain t)) ∙ declare_none i ts b.1
+declare_none i (t ∷ ts) b = ap (λ l. l ++ declared_by_all (map statement ts)) (declares_none i (statement t) b.0.uses) ∙ declare_none i ts b.1
 
 no_locals : (f : ℕ → ℕ) (n k : ℕ) (names : List (List ℕ)) → numbers_where (λ (s : SignalInfo). is_local s.sort) n (signals_from f k names) ≡ []
 no_locals f n k [] = refl
 no_locals f n k (m ∷ ms) = no_locals f (suc n) (suc k) ms
 
-once : (i : Interface) (ps : List Plain) (ts : List Term) → AreBuilt i ts → declares_each_once (tables_for i ps) (map statement ts) ≡ true
+once : (i : Interface) (ps : List Stmt) (ts : List Term) → AreBuilt i ts → declares_each_once (tables_for i ps) (map statement ts) ≡ true
 once i ps ts b =
     ap (λ l. well.are_apart l && list_all (λ s. stands_in s l) (numbers_where (λ (s : SignalInfo). is_local s.sort) 0 (tables_for i ps).signals)) (declare_none i ts b)
     ∙ ap (list_all (λ s. stands_in s [])) (no_locals (owner_of emits_of ps) 0 0 i.signals)
@@ -270,13 +281,13 @@ all_parts i [] b = refl
 all_parts i (t ∷ ts) b = and_true (has_parts t) (list_all has_parts ts) b.0.parts (all_parts i ts b.1)
 
 is_system : (ports : List Port) (ts : List Term) → list_all is_name (port_names ports) ≡ true → are_distinct (port_names ports) ≡ true → length (interface_of ports).channels ≤ most_channels → 1 ≤ length ts → length ts ≤ most_domains
-    → AreBuilt (interface_of ports) ts → KeepsOwners (interface_of ports) (map plain ts) → HasOwners role.Emitter (map plain ts) → HasOwners role.Sender (map plain ts) → HasOwners role.Receiver (map plain ts)
-    → is_well_formed (tables_for (interface_of ports) (map plain ts)) ts ≡ true
+    → AreBuilt (interface_of ports) ts → KeepsOwners (interface_of ports) (map statement ts) → HasOwners role.Emitter (map statement ts) → HasOwners role.Sender (map statement ts) → HasOwners role.Receiver (map statement ts)
+    → is_well_formed (tables_for (interface_of ports) (map statement ts)) ts ≡ true
 is_system ports ts n d c some few b k em se re =
     let i = interface_of ports in
-    let ps = map plain ts in
+    let ps = map statement ts in
     let t = tables_for i ps in
-    let l : length ps ≡ length ts = length-map ts plain in
+    let l : length ps ≡ length ts = length-map ts statement in
     and_true (has_names t) _ (names_hold ports ps n d)
     (and_true (is_within_limits t (length ts)) _ (limits_hold i ps (length ts) (sym l) few c k)
     (and_true (has_entries t (length ts)) _ (ap (has_entries t) (sym l) ∙ entries_hold i ps (omega arith) k se re)
@@ -284,7 +295,7 @@ is_system ports ts n d c some few b k em se re =
     (and_true (fit_statements t 0 (map statement ts)) _ (fits_from i ps [] ts refl b em se re) (once i ps ts b)))))
 
 pub well_formed : (i : Interface) (ports : List Port) (ts : List Term) (tables : Tables) → i ≡ interface_of ports → list_all is_name (port_names ports) ≡ true → are_distinct (port_names ports) ≡ true → length i.channels ≤ most_channels
-    → 1 ≤ length ts → length ts ≤ most_domains → AreBuilt i ts → AreTablesOf i (map plain ts) tables → is_well_formed tables ts ≡ true
+    → 1 ≤ length ts → length ts ≤ most_domains → AreBuilt i ts → AreTablesOf i (map statement ts) tables → is_well_formed tables ts ≡ true
 well_formed i ports ts tables e n d c some few b a =
-    ap (λ t. is_well_formed t ts) (a.is ∙ ap (λ x. tables_for x (map plain ts)) e)
-    ∙ is_system ports ts n d (subst (λ x. length x.channels ≤ most_channels) e c) some few (subst (λ x. AreBuilt x ts) e b) (subst (λ x. KeepsOwners x (map plain ts)) e a.keeps) a.emitters a.senders a.receivers
+    ap (λ t. is_well_formed t ts) (a.is ∙ ap (λ x. tables_for x (map statement ts)) e)
+    ∙ is_system ports ts n d (subst (λ x. length x.channels ≤ most_channels) e c) some few (subst (λ x. AreBuilt x ts) e b) (subst (λ x. KeepsOwners x (map statement ts)) e a.keeps) a.emitters a.senders a.receivers

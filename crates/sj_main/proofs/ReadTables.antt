@@ -15,7 +15,7 @@ use Rattle.kernel_terms.specs.TableEntries.{numbers_where}
 use Rattle.sj_main.specs.declared.reader.owners.Role.{Role}
 use Rattle.sj_main.specs.declared.reader.owners.Role.TheVariants as role
 use Rattle.sj_main.specs.BuiltTerms.{AreBuilt}
-use Rattle.domain_core.specs.BuiltForms.{Plain, plain}
+use Rattle.kernel_terms.specs.Statements.{Stmt, statement}
 use Rattle.sj_main.specs.definitions.Programs.{Interface, emits_of, sends_of, receives_of, owner_of, signals_from, channels_from, tables_for}
 use Rattle.sj_main.specs.definitions.Accepted.{Uses, HasOne}
 use Rattle.sj_main.specs.ReadingOwners.{numbers_of, limit_of, AreOwners, IsShared, owner_in, count_of, AreFewEach, IsFull, IsPair, AreChannels, IsUnpaired, AreTablesOf, BreaksOwners}
@@ -109,34 +109,34 @@ channels_same f g s t k (n ∷ ns) h e =
     ∙ ap (λ d. (record { name = n; kind = Int; sender = g k; receiver = d }) ∷ channels_from f s (suc k) ns) (e k)
     ∙ ap (λ l. (record { name = n; kind = Int; sender = g k; receiver = t k }) ∷ l) (channels_same f g s t (suc k) ns h e)
 
-owner_is : (r : Role) (ps : List Plain) (owners : List (Option ℕ)) → AreOwners r ps owners → (n : ℕ) → owner_in owners n ≡ owner_of (numbers_of r) ps n
+owner_is : (r : Role) (ps : List Stmt) (owners : List (Option ℕ)) → AreOwners r ps owners → (n : ℕ) → owner_in owners n ≡ owner_of (numbers_of r) ps n
 owner_is r ps owners o n = ap (λ x. unwrap_or x 0) (o.is n)
 
-signals_are : (i : Interface) (ps : List Plain) (owners : List (Option ℕ)) (signals : List SignalInfo) → AreOwners role.Emitter ps owners → signals ≡ signals_from (owner_in owners) 0 i.signals → signals ≡ (tables_for i ps).signals
+signals_are : (i : Interface) (ps : List Stmt) (owners : List (Option ℕ)) (signals : List SignalInfo) → AreOwners role.Emitter ps owners → signals ≡ signals_from (owner_in owners) 0 i.signals → signals ≡ (tables_for i ps).signals
 signals_are i ps owners signals o h = h ∙ signals_same (owner_in owners) (owner_of emits_of ps) 0 i.signals (owner_is role.Emitter ps owners o)
 
-uses_within : (r : Role) (i : Interface) (ts : List Term) (d n : ℕ) → AreBuilt i ts → Uses (numbers_of r) (map plain ts) d n → n < limit_of r i
+uses_within : (r : Role) (i : Interface) (ts : List Term) (d n : ℕ) → AreBuilt i ts → Uses (numbers_of r) (map statement ts) d n → n < limit_of r i
 uses_within r i [] d n b h = absurd (stands_none r n h)
-uses_within r i (t ∷ ts) zero n b h = (uses_below r i (plain t) b.0.uses).below n h
+uses_within r i (t ∷ ts) zero n b h = (uses_below r i (statement t) b.0.uses).below n h
 uses_within r i (t ∷ ts) (suc d) n b h = uses_within r i ts d n b.1 h
 
-pub shared_sender : (i : Interface) (ts : List Term) → AreBuilt i ts → IsShared role.Sender (map plain ts) → BreaksOwners i (map plain ts)
+pub shared_sender : (i : Interface) (ts : List Term) → AreBuilt i ts → IsShared role.Sender (map statement ts) → BreaksOwners i (map statement ts)
 shared_sender i ts b s = record {
   none = λ k. (let j = k.joined s.number (uses_within role.Sender i ts s.first s.number b s.one) in s.differ (j.sender.only s.first s.one ∙ sym (j.sender.only s.second s.other)));
 }
 
-pub shared_receiver : (i : Interface) (ts : List Term) → AreBuilt i ts → IsShared role.Receiver (map plain ts) → BreaksOwners i (map plain ts)
+pub shared_receiver : (i : Interface) (ts : List Term) → AreBuilt i ts → IsShared role.Receiver (map statement ts) → BreaksOwners i (map statement ts)
 shared_receiver i ts b s = record {
   none = λ k. (let j = k.joined s.number (uses_within role.Receiver i ts s.first s.number b s.one) in s.differ (j.receiver.only s.first s.one ∙ sym (j.receiver.only s.second s.other)));
 }
 
-pub full_domain : (i : Interface) (ps : List Plain) (owners : List (Option ℕ)) (signals : List SignalInfo) (domains : ℕ) → AreOwners role.Emitter ps owners → signals ≡ signals_from (owner_in owners) 0 i.signals → domains ≡ length ps → IsFull signals domains
+pub full_domain : (i : Interface) (ps : List Stmt) (owners : List (Option ℕ)) (signals : List SignalInfo) (domains : ℕ) → AreOwners role.Emitter ps owners → signals ≡ signals_from (owner_in owners) 0 i.signals → domains ≡ length ps → IsFull signals domains
     → BreaksOwners i ps
 full_domain i ps owners signals domains o h e f = record {
   none = λ k. (let a = ap (count_of f.domain) (signals_are i ps owners signals o h) in let b = count_is f.domain 0 (tables_for i ps).signals in let l = f.within in let c = k.few f.domain (omega arith) in let m = f.many in omega arith);
 }
 
-pub unpaired_channel : (i : Interface) (ps : List Plain) (senders receivers : List (Option ℕ)) → AreOwners role.Sender ps senders → AreOwners role.Receiver ps receivers → IsUnpaired senders receivers (length i.channels) → BreaksOwners i ps
+pub unpaired_channel : (i : Interface) (ps : List Stmt) (senders receivers : List (Option ℕ)) → AreOwners role.Sender ps senders → AreOwners role.Receiver ps receivers → IsUnpaired senders receivers (length i.channels) → BreaksOwners i ps
 unpaired_channel i ps senders receivers s r u = record {
   none = λ k.
       let j = k.joined u.channel u.within in
@@ -149,13 +149,13 @@ unpaired_channel i ps senders receivers s r u = record {
       });
 }
 
-one_of : (r : Role) (ps : List Plain) (owners : List (Option ℕ)) (n d : ℕ) → AreOwners r ps owners → get_or owners n None ≡ Some d → HasOne (numbers_of r) ps n
+one_of : (r : Role) (ps : List Stmt) (owners : List (Option ℕ)) (n d : ℕ) → AreOwners r ps owners → get_or owners n None ≡ Some d → HasOne (numbers_of r) ps n
 one_of r ps owners n d o h =
     let f = first_uses r n 0 d ps (sym (o.is n) ∙ h) in
     let same : d ≡ f.0 = (let a = f.1 in omega arith) in
     record { domain = d; is = subst (λ k. Uses (numbers_of r) ps k n) (sym same) f.3; only = λ e u. some_same e d (sym (o.kept.alone n e u) ∙ sym (o.is n) ∙ h) }
 
-pub tables_found : (i : Interface) (ps : List Plain) (emitters senders receivers : List (Option ℕ)) (domains : ℕ) (tables : Tables) → AreOwners role.Emitter ps emitters → AreOwners role.Sender ps senders → AreOwners role.Receiver ps receivers
+pub tables_found : (i : Interface) (ps : List Stmt) (emitters senders receivers : List (Option ℕ)) (domains : ℕ) (tables : Tables) → AreOwners role.Emitter ps emitters → AreOwners role.Sender ps senders → AreOwners role.Receiver ps receivers
     → tables.signals ≡ signals_from (owner_in emitters) 0 i.signals → domains ≡ length ps → AreFewEach tables.signals domains → AreChannels i.channels senders receivers tables.channels → tables.variables ≡ [] → AreTablesOf i ps tables
 unfolding one_of
 tables_found i ps emitters senders receivers domains tables e s r h n f c v = record {
@@ -175,5 +175,5 @@ tables_found i ps emitters senders receivers domains tables e s r h n f c v = re
   receivers = r.kept;
 }
 
-pub count_domains : (ts : List Term) → length ts ≡ length (map plain ts)
-count_domains ts = sym (length-map ts plain)
+pub count_domains : (ts : List Term) → length ts ≡ length (map statement ts)
+count_domains ts = sym (length-map ts statement)

@@ -22,8 +22,9 @@ use Rattle.kernel_terms.specs.declared.term.Form.TheFolds.{fold-Form, fold-roll-
 use Rattle.kernel_terms.specs.declared.term.Form.TheVariants.{rolls-Seq, rolls-Loop, rolls-Nothing, rolls-Pause, rolls-Emit, rolls-Send, rolls-Receive}
 use Rattle.kernel_terms.specs.declared.term.Form as form
 use Rattle.kernel_terms.specs.WellFormed.{has_parts, has_some, form_has_parts, term_has_parts}
-use Rattle.domain_core.specs.BuiltForms.{Plain, Nothing, Pause, Emit, Send, Receive, plain, plain_of_form, form_plain, term_plain, is_built, is_built_form, form_built, term_built, all_built, is_int_literal, number_of, sequence_from}
-use Rattle.domain_core.proofs.BuiltLayers.{plain-Seq, plain-Loop}
+use Rattle.kernel_terms.specs.Statements.{Stmt, Nothing, Pause, Emit, Send, Receive, statement, statement_of_form, form_statement, term_statement, sequence_from}
+use Rattle.domain_core.specs.definitions.step.Built.{is_built, is_built_form, form_built, term_built, all_built, is_int_literal}
+use Rattle.kernel_terms.proofs.Layers.{statement-Seq, statement-Loop}
 use Rattle.sj_main.specs.BuiltTerms.{is_int, is_within, IsBuilt, AreBuilt}
 use Rattle.sj_main.specs.definitions.Programs.{Interface}
 use Rattle.sj_main.specs.ReadingBlocks.{IsSequence}
@@ -93,24 +94,24 @@ forms-Receive t c h = forms_out t ∙ ap is_built_form (h ∙ sym (rolls-Receive
 
 -- the built statement
 
-plain_out : (t : Term) → plain t ≡ plain_of_form t.form
-plain_out = fold_out-Term Plain Plain form_plain term_plain
+statement_out : (t : Term) → statement t ≡ statement_of_form t.form
+statement_out = fold_out-Term Stmt Stmt form_statement term_statement
 
-pub plain-Nothing : (t : Term) → t.form ≡ form.Nothing → plain t ≡ Nothing
-plain-Nothing t h = plain_out t ∙ ap plain_of_form (h ∙ sym rolls-Nothing) ∙ fold-roll-Form Plain Plain form_plain term_plain Form-F.Nothing
+pub statement-Nothing : (t : Term) → t.form ≡ form.Nothing → statement t ≡ Nothing
+statement-Nothing t h = statement_out t ∙ ap statement_of_form (h ∙ sym rolls-Nothing) ∙ fold-roll-Form Stmt Stmt form_statement term_statement Form-F.Nothing
 
-pub plain-Pause : (t : Term) → t.form ≡ form.Pause → plain t ≡ Pause
-plain-Pause t h = plain_out t ∙ ap plain_of_form (h ∙ sym rolls-Pause) ∙ fold-roll-Form Plain Plain form_plain term_plain Form-F.Pause
+pub statement-Pause : (t : Term) → t.form ≡ form.Pause → statement t ≡ Pause
+statement-Pause t h = statement_out t ∙ ap statement_of_form (h ∙ sym rolls-Pause) ∙ fold-roll-Form Stmt Stmt form_statement term_statement Form-F.Pause
 
-pub plain-Emit : (t : Term) (s : ℕ) → t.form ≡ form.Emit s None → plain t ≡ Emit s
-plain-Emit t s h = plain_out t ∙ ap plain_of_form (h ∙ sym (rolls-Emit s None)) ∙ fold-roll-Form Plain Plain form_plain term_plain (Form-F.Emit s None)
+pub statement-Emit : (t : Term) (s : ℕ) → t.form ≡ form.Emit s None → statement t ≡ Emit s None
+statement-Emit t s h = statement_out t ∙ ap statement_of_form (h ∙ sym (rolls-Emit s None)) ∙ fold-roll-Form Stmt Stmt form_statement term_statement (Form-F.Emit s None)
 
-pub plain-Send : (t : Term) (c : ℕ) (e : Expr) (n : ℤ) → t.form ≡ form.Send c e → expression e ≡ Literal Int n → plain t ≡ Send c n
-plain-Send t c e n h l =
-    plain_out t ∙ ap plain_of_form (h ∙ sym (rolls-Send c e)) ∙ fold-roll-Form Plain Plain form_plain term_plain (Form-F.Send c e) ∙ ap (λ x. Send c (number_of x)) l
+pub statement-Send : (t : Term) (c : ℕ) (e : Expr) (n : ℤ) → t.form ≡ form.Send c e → expression e ≡ Literal Int n → statement t ≡ Send c (Literal Int n)
+statement-Send t c e n h l =
+    statement_out t ∙ ap statement_of_form (h ∙ sym (rolls-Send c e)) ∙ fold-roll-Form Stmt Stmt form_statement term_statement (Form-F.Send c e) ∙ ap (Send c) l
 
-pub plain-Receive : (t : Term) (c : ℕ) → t.form ≡ form.Receive c → plain t ≡ Receive c
-plain-Receive t c h = plain_out t ∙ ap plain_of_form (h ∙ sym (rolls-Receive c)) ∙ fold-roll-Form Plain Plain form_plain term_plain (Form-F.Receive c)
+pub statement-Receive : (t : Term) (c : ℕ) → t.form ≡ form.Receive c → statement t ≡ Receive c
+statement-Receive t c h = statement_out t ∙ ap statement_of_form (h ∙ sym (rolls-Receive c)) ∙ fold-roll-Form Stmt Stmt form_statement term_statement (Form-F.Receive c)
 
 -- a literal's expression
 
@@ -129,16 +130,16 @@ literal_is e n h k =
 
 -- terms of the built forms
 
-within : Interface → Plain → Bool
+within : Interface → Stmt → Bool
 within i p = is_within (length i.signals) (length i.channels) p
 
 pub built-Nothing : (t : Term) → t.form ≡ form.Nothing → (i : Interface) → IsBuilt i t
 unfolding within
-built-Nothing t h i = record { parts = parts-Nothing t h; forms = forms-Nothing t h; uses = ap (within i) (plain-Nothing t h) }
+built-Nothing t h i = record { parts = parts-Nothing t h; forms = forms-Nothing t h; uses = ap (within i) (statement-Nothing t h) }
 
 pub built-Pause : (t : Term) → t.form ≡ form.Pause → (i : Interface) → IsBuilt i t
 unfolding within
-built-Pause t h i = record { parts = parts-Pause t h; forms = forms-Pause t h; uses = ap (within i) (plain-Pause t h) }
+built-Pause t h i = record { parts = parts-Pause t h; forms = forms-Pause t h; uses = ap (within i) (statement-Pause t h) }
 
 lt_true : (a b : ℕ) → a < b → nat_lt a b ≡ true
 lt_true a b h = grind (arith, nat_tests)
@@ -153,23 +154,23 @@ both false b h = cc
 
 pub built-Emit : (t : Term) (s : ℕ) → t.form ≡ form.Emit s None → (i : Interface) → s < length i.signals → IsBuilt i t
 unfolding within
-built-Emit t s h i l = record { parts = parts-Emit t s None h; forms = forms-Emit t s h; uses = ap (within i) (plain-Emit t s h) ∙ lt_true s (length i.signals) l }
+built-Emit t s h i l = record { parts = parts-Emit t s None h; forms = forms-Emit t s h; uses = ap (within i) (statement-Emit t s h) ∙ lt_true s (length i.signals) l }
 
 pub built-Receive : (t : Term) (c : ℕ) → t.form ≡ form.Receive c → (i : Interface) → c < length i.channels → IsBuilt i t
 unfolding within
-built-Receive t c h i l = record { parts = parts-Receive t c h; forms = forms-Receive t c h; uses = ap (within i) (plain-Receive t c h) ∙ lt_true c (length i.channels) l }
+built-Receive t c h i l = record { parts = parts-Receive t c h; forms = forms-Receive t c h; uses = ap (within i) (statement-Receive t c h) ∙ lt_true c (length i.channels) l }
 
 pub built-Send : (t : Term) (c : ℕ) (e : Expr) (n : ℤ) → t.form ≡ form.Send c e → expression e ≡ Literal Int n → is_int n ≡ true → (i : Interface) → c < length i.channels → IsBuilt i t
 unfolding within
 built-Send t c e n h v r i l = record {
   parts = parts-Send t c e h;
   forms = forms-Send t c e n h v;
-  uses = ap (within i) (plain-Send t c e n h v) ∙ and_true (nat_lt c (length i.channels)) (is_int n) (lt_true c (length i.channels) l) r;
+  uses = ap (within i) (statement-Send t c e n h v) ∙ and_true (nat_lt c (length i.channels)) (is_int n) (lt_true c (length i.channels) l) r;
 }
 
 pub built-Loop : (t body : Term) → t.form ≡ form.Loop body → (i : Interface) → IsBuilt i body → IsBuilt i t
 unfolding within
-built-Loop t body h i b = record { parts = parts-Loop t body h ∙ b.parts; forms = forms-Loop t body h ∙ b.forms; uses = ap (within i) (plain-Loop t body h) ∙ b.uses }
+built-Loop t body h i b = record { parts = parts-Loop t body h ∙ b.parts; forms = forms-Loop t body h ∙ b.forms; uses = ap (within i) (statement-Loop t body h) ∙ b.uses }
 
 all_parts : (i : Interface) (ts : List Term) → AreBuilt i ts → list_all (λ b. b) (map has_parts ts) ≡ true
 all_parts i [] h = refl
@@ -179,22 +180,22 @@ all_forms : (i : Interface) (ts : List Term) → AreBuilt i ts → all_built (ma
 all_forms i [] h = refl
 all_forms i (t ∷ ts) h = and_true (is_built t) (all_built (map is_built ts)) h.0.forms (all_forms i ts h.1)
 
-uses_from : (i : Interface) (t : Term) (ts : List Term) → IsBuilt i t → AreBuilt i ts → within i (sequence_from (plain t) (map plain ts)) ≡ true
+uses_from : (i : Interface) (t : Term) (ts : List Term) → IsBuilt i t → AreBuilt i ts → within i (sequence_from (statement t) (map statement ts)) ≡ true
 unfolding within
 uses_from i t [] g h = g.uses
-uses_from i t (u ∷ us) g h = and_true (is_within (length i.signals) (length i.channels) (plain t)) _ g.uses (uses_from i u us h.0 h.1)
+uses_from i t (u ∷ us) g h = and_true (is_within (length i.signals) (length i.channels) (statement t)) _ g.uses (uses_from i u us h.0 h.1)
 
 built-Seq : (i : Interface) (t first : Term) (rest : List Term) → t.form ≡ form.Seq (first ∷ rest) → AreBuilt i (first ∷ rest) → IsBuilt i t
 unfolding within
 built-Seq i t first rest h a = record {
   parts = parts-Seq t (first ∷ rest) h ∙ and_true (has_parts first) (list_all (λ c. c) (map has_parts rest)) a.0.parts (all_parts i rest a.1);
   forms = forms-Seq t (first ∷ rest) h ∙ all_forms i (first ∷ rest) a;
-  uses = ap (within i) (plain-Seq t (first ∷ rest) h) ∙ uses_from i first rest a.0 a.1;
+  uses = ap (within i) (statement-Seq t (first ∷ rest) h) ∙ uses_from i first rest a.0 a.1;
 }
 
 pub sequence_of : (t first : Term) (rest : List Term) → t.form ≡ form.Seq (first ∷ rest) → IsSequence t (first ∷ rest)
 sequence_of t first rest h = record {
-  meaning = plain-Seq t (first ∷ rest) h;
+  meaning = statement-Seq t (first ∷ rest) h;
   built = λ i a. built-Seq i t first rest h a;
 }
 

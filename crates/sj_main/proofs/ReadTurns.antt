@@ -3,7 +3,7 @@ use Rattle.std.proofs.Common.{◌≡◌, ◌≢◌, inl, inr, ◌⊎◌, ℕ, su
 use Rattle.std.proofs.lemmas.List.{length-set, get_or-replicate, get_or-set_same, get_or-set_other}
 use Rattle.std.specs.Prelude.{codes, Option, MatchOption}
 use Rattle.std.proofs.lemmas.Bool.Decides.{nat_tests}
-use Rattle.domain_core.specs.Scheduled.{turns_of}
+use Rattle.domain_core.specs.definitions.runs.Scheduled.{turns_of}
 use Rattle.sj_main.specs.declared.commands.Turns.{Turns}
 use Rattle.sj_main.specs.declared.commands.Turns.TheVariants.{Rounds, Each}
 use Rattle.sj_main.specs.definitions.Tokens.{digit_value, number_from}
@@ -431,3 +431,65 @@ turns_few word (Each ts) h = h.few
 
 pub orders_few : (words : List (List ℕ)) (file : List ℕ) (turns : Turns) → IsOrder words file turns → AreFew turns
 orders_few words file turns o = turns_few o.word turns o.takes
+
+-- the turns of a word are the only ones
+
+turn_once : (t u : ℕ) (a b : List ℕ) → (t < 10) ⊎ (10 ≤ t) → (u < 10) ⊎ (10 ≤ u) → EndsTurn a → EndsTurn b → turn_text t ++ a ≡ turn_text u ++ b → (t ≡ u) × (a ≡ b)
+turn_once t u a b (inl l) (inl k) e f h = let m = heads (48 + t) (48 + u) a b (sym (text_low t a l) ∙ h ∙ text_low u b k) in (let z = m.0 in omega arith, m.1)
+turn_once t u a b (inl l) (inr k) e f h =
+    let m = heads (48 + t) 49 a ((38 + u) ∷ b) (sym (text_low t a l) ∙ h ∙ text_high u b k) in
+    absurd (no_digit (38 + u) b a e m.1 (λ z. omega arith))
+turn_once t u a b (inr l) (inl k) e f h =
+    let m = heads 49 (48 + u) ((38 + t) ∷ a) b (sym (text_high t a l) ∙ h ∙ text_low u b k) in
+    absurd (no_digit (38 + t) a b f (sym m.1) (λ z. omega arith))
+turn_once t u a b (inr l) (inr k) e f h =
+    let m = heads 49 49 ((38 + t) ∷ a) ((38 + u) ∷ b) (sym (text_high t a l) ∙ h ∙ text_high u b k) in
+    let n = heads (38 + t) (38 + u) a b m.1 in
+    (let z = n.0 in omega arith, n.1)
+
+first_once : (t u : ℕ) (ts us : List ℕ) → turns_text t ts ≡ turns_text u us → (t ≡ u) × (rest_of t ts ≡ rest_of u us)
+first_once t u ts us h = turn_once t u (rest_of t ts) (rest_of u us) (low_or_high t) (low_or_high u) (rest_ends t ts) (rest_ends u us) (sym (text_of t ts) ∙ h ∙ text_of u us)
+
+list_once : (t u : ℕ) (ts us : List ℕ) → turns_text t ts ≡ turns_text u us → t ∷ ts ≡ u ∷ us
+unfolding rest_of
+list_once t u [] [] h = ap (λ x. x ∷ []) (first_once t u [] [] h).0
+list_once t u [] (w ∷ ws) h = let e = (first_once t u [] (w ∷ ws) h).1 in absurd (cc)
+list_once t u (v ∷ vs) [] h = let e = (first_once t u (v ∷ vs) [] h).1 in absurd (cc)
+list_once t u (v ∷ vs) (w ∷ ws) h =
+    let m = first_once t u (v ∷ vs) (w ∷ ws) h in
+    ap (λ x. x ∷ v ∷ vs) m.0 ∙ ap (λ l. u ∷ l) (list_once v w vs ws (heads 44 44 (turns_text v vs) (turns_text w ws) m.1).1)
+
+-- a turn's text begins with a digit
+begins_digit : (b t : ℕ) (xs after : List ℕ) → (t < 10) ⊎ (10 ≤ t) → b ∷ xs ≡ turn_text t ++ after → (48 ≤ b) × (b ≤ 57)
+begins_digit b t xs after (inl l) h = let m = heads b (48 + t) xs after (h ∙ text_low t after l) in (let z = m.0 in omega arith, let z = m.0 in omega arith)
+begins_digit b t xs after (inr l) h = let m = heads b 49 xs ((38 + t) ∷ after) (h ∙ text_high t after l) in (let z = m.0 in omega arith, let z = m.0 in omega arith)
+
+no_digits : (b t : ℕ) (xs ts : List ℕ) → b ∷ xs ≡ turns_text t ts → (48 ≤ b → b ≤ 57 → ⊥) → ⊥
+no_digits b t xs ts h n = let d = begins_digit b t xs (rest_of t ts) (low_or_high t) (h ∙ text_of t ts) in n d.0 d.1
+
+each_once : (word ts us : List ℕ) → AreTurns word ts → AreTurns word us → ts ≡ us
+each_once word [] [] a b = refl
+each_once word [] (u ∷ us) a b = absurd (no_digits 45 u [] us (sym a ∙ b) (λ l k. omega arith))
+each_once word (t ∷ ts) [] a b = absurd (no_digits 45 t [] ts (sym b ∙ a) (λ l k. omega arith))
+each_once word (t ∷ ts) (u ∷ us) a b = list_once t u ts us (sym a ∙ b)
+
+not_both : (word digits ts : List ℕ) → word ≡ codes "rr:" ++ digits → AreTurns word ts → ⊥
+not_both word digits [] r a = let m = heads 114 45 (114 ∷ 58 ∷ digits) [] (sym r ∙ a) in let z = m.0 in omega arith
+not_both word digits (t ∷ ts) r a = no_digits 114 t (114 ∷ 58 ∷ digits) ts (sym r ∙ a) (λ l k. omega arith)
+
+some_number : (m n : ℕ) → Some m ≡ Some n → m ≡ n
+some_number m n h = cc
+
+turns_once : (word : List ℕ) (a b : Turns) → IsTurns word a → IsTurns word b → a ≡ b
+turns_once word (Rounds m) (Rounds n) a b = ap Rounds (some_number m n (sym a.number ∙ ap (whole_number most_turns) (same_digits word a.digits b.digits a.is b.is) ∙ b.number))
+turns_once word (Rounds m) (Each ts) a b = absurd (not_both word a.digits ts a.is b.are)
+turns_once word (Each ts) (Rounds n) a b = absurd (not_both word b.digits ts b.is a.are)
+turns_once word (Each ts) (Each us) a b = ap Each (each_once word ts us a.are b.are)
+
+same_words : (a b f g v w : List ℕ) → a ∷ f ∷ v ∷ b ∷ [] ≡ a ∷ g ∷ w ∷ b ∷ [] → (f ≡ g) × (v ≡ w)
+same_words a b f g v w h = (cc, cc)
+
+pub command_once : (words : List (List ℕ)) (file other : List ℕ) (turns more : Turns) → IsOrder words file turns → IsOrder words other more → (file ≡ other) × (turns ≡ more)
+command_once words file other turns more a b =
+    let w = same_words (codes "order") (codes "-") file other a.word b.word (sym a.is ∙ b.is) in
+    (w.0, turns_once b.word turns more (subst (λ x. IsTurns x turns) w.1 a.takes) b.takes)

@@ -1,26 +1,29 @@
 -- A send and a receive of two domains, from the bytes to the text.
-use Rattle.std.proofs.Common.{◌≡◌, ◌≢◌, ◌⊎◌, inl, inr, ℕ, zero, suc, ◌<◌, ◌≤◌, true, pos, ℤ, List, [], ◌∷◌, ◌++◌, length, get_or, refl, ◌∙◌, arith}
+use Rattle.std.proofs.Common.{◌≡◌, ◌≢◌, inl, inr, ℕ, zero, suc, ◌<◌, ◌≤◌, true, pos, ℤ, List, [], ◌∷◌, length, get_or, refl, ◌∙◌, arith}
 use Rattle.std.specs.Prelude.{Option, Some, None, codes, decimal}
 use Rattle.std.proofs.lemmas.Bool.Decides.{nat_tests}
 use Rattle.std.proofs.lemmas.Fmt.{decimal_digit}
+use Rattle.java_values.specs.declared.kind.Kind.TheVariants.{Int}
 use Rattle.kernel_terms.specs.WellFormed.{signals_of}
-use Rattle.kernel_terms.specs.Statements.{Emit, Seq, SendWaits, ReceiveWaits}
-use Rattle.kernel_rules.specs.Signals.{put_at}
-use Rattle.kernel_rules.specs.TickRule.{Tick, quiet, ends_with, as_whole}
-use Rattle.tick_log.specs.Runs.{Ended, RunState, mark_of, log_of, tick_count, join_count}
-use Rattle.domain_core.specs.BuiltForms.{Plain}
-use Rattle.domain_core.specs.BuiltForms as built
-use Rattle.domain_core.specs.Systems.{Setup, SystemState, JoinRecord, Move, MakesTick, MakesJoin, JoinStep, IsSystem, start, send_done, receive_done}
-use Rattle.domain_core.specs.Scheduled.{BothWait, JoinsInTurn, TakesTurns, IsScheduledRun}
-use Rattle.domain_core.proofs.Places.{put_apart}
-use Rattle.domain_core.proofs.Rendezvous.{zeros, sending}
+use Rattle.kernel_terms.specs.Expressions.{Literal}
+use Rattle.kernel_terms.specs.Marks.{Ended}
+use Rattle.kernel_terms.specs.MayEnd.{LoopsWait}
+use Rattle.kernel_terms.specs.Statements.{Stmt, Nothing, Emit, Seq, Send, Receive, SendWaits, ReceiveWaits}
+use Rattle.kernel_rules.specs.definitions.Signals.{put_at}
+use Rattle.kernel_rules.specs.definitions.TickRule.{Tick, quiet, ends_with, as_whole}
+use Rattle.kernel_rules.specs.definitions.LegalTick.{no_inputs}
+use Rattle.tick_tree.specs.definitions.Weight.{weight_of}
+use Rattle.tick_log.specs.definitions.Runs.{RunState, log_of, tick_count, join_count}
+use Rattle.domain_core.specs.definitions.runs.Systems.{Setup, SystemState, JoinRecord, Move, MakesTick, MakesJoin, IsSystem, start}
+use Rattle.domain_core.specs.definitions.runs.Scheduled.{TakesTurns}
+use Rattle.domain_core.proofs.lemmas.runs.Places.{put_apart}
+use Rattle.domain_core.proofs.lemmas.runs.WorkedRuns.{ticked, zeros, either, joined, no_join, one_join}
 use Rattle.sj_main.specs.declared.commands.Turns.TheVariants.{Each}
 use Rattle.sj_main.specs.definitions.Grammar.{Done, EmitThen, SendThen, ReceiveThen, SignalPort, ChannelPort, Program}
 use Rattle.sj_main.specs.definitions.Programs.{setup_of, tables_of_program, emits_of, sends_of, receives_of}
-use Rattle.sj_main.specs.definitions.Weight.{weight_of}
 use Rattle.sj_main.specs.definitions.Accepted.{Uses, Joins, IsSourceOf}
 use Rattle.sj_main.specs.definitions.Verdicts.{IsRunOf}
-use Rattle.sj_main.proofs.RowLemmas.{zero_text, one_text, two_text, three_text, all_none, all_more, ticked, Makes, step_of, turn_taken, told_run}
+use Rattle.sj_main.proofs.RowLemmas.{zero_text, one_text, two_text, three_text, all_none, all_more, Makes, turn_joined, turn_taken, IsShownBy, told_run}
 
 abbrev source : List ℕ
 source = codes "system{interface{output signal D;output signal B;int channel C;}{send C(5); emit D;}><{receive C; emit B;}}"
@@ -33,10 +36,10 @@ program = record {
 }
 
 abbrev setup : Setup
-setup = setup_of program
+setup = setup_of program no_inputs
 
-abbrev domains : List Plain
-domains = built.Seq (built.Send 0 (pos 5)) (built.Emit 0) ∷ built.Seq (built.Receive 0) (built.Emit 1) ∷ []
+abbrev domains : List Stmt
+domains = Seq (Send 0 (Literal Int (pos 5))) (Emit 0 None) ∷ Seq (Receive 0) (Emit 1 None) ∷ []
 
 -- the static rules
 
@@ -67,16 +70,16 @@ one_receiver zero h = cc
 one_receiver (suc zero) h = refl
 one_receiver (suc (suc d)) h = cc
 
-joined : (c : ℕ) → c < 1 → Joins domains c
-joined zero h = record { sender = record { domain = 0; is = refl; only = one_sender }; receiver = record { domain = 1; is = refl; only = one_receiver }; apart = λ e. omega arith }
-joined (suc c) h = absurd (omega arith)
+channel_joins : (c : ℕ) → c < 1 → Joins domains c
+channel_joins zero h = record { sender = record { domain = 0; is = refl; only = one_sender }; receiver = record { domain = 1; is = refl; only = one_receiver }; apart = λ e. omega arith }
+channel_joins (suc c) h = absurd (omega arith)
 
-wait : (d : ℕ) → built.LoopsWait (get_or domains d built.Nothing)
+wait : (d : ℕ) → LoopsWait (get_or domains d Nothing)
 wait zero = (tt, tt)
 wait (suc zero) = (tt, tt)
 wait (suc (suc d)) = tt
 
-weigh : (d : ℕ) → weight_of (get_or domains d built.Nothing) ≤ 100000
+weigh : (d : ℕ) → weight_of (get_or domains d Nothing) ≤ 100000
 weigh zero = omega arith
 weigh (suc zero) = omega arith
 weigh (suc (suc d)) = omega arith
@@ -93,7 +96,7 @@ is_source = record {
         domains = omega arith;
         blocks = (record { declared = (refl, (refl, tt)); depth = omega arith }, (record { declared = (refl, (refl, tt)); depth = omega arith }, tt));
       };
-      owners = record { emitters = one_emitter; few = few_each; joined = joined };
+      owners = record { emitters = one_emitter; few = few_each; joined = channel_joins };
     };
     loops = wait;
     weight = weigh;
@@ -103,19 +106,22 @@ is_source = record {
 system : IsSystem setup
 system = record { sender = sender; receiver = receiver; apart = apart }
   where
-    sender : (c : ℕ) → c < 1 → Rattle.domain_core.specs.Systems.sender_of setup c < 2
+    sender : (c : ℕ) → c < 1 → Rattle.domain_core.specs.definitions.runs.Systems.sender_of setup c < 2
     sender zero h = omega arith
     sender (suc c) h = absurd (omega arith)
 
-    receiver : (c : ℕ) → c < 1 → Rattle.domain_core.specs.Systems.receiver_of setup c < 2
+    receiver : (c : ℕ) → c < 1 → Rattle.domain_core.specs.definitions.runs.Systems.receiver_of setup c < 2
     receiver zero h = omega arith
     receiver (suc c) h = absurd (omega arith)
 
-    apart : (c : ℕ) → c < 1 → Rattle.domain_core.specs.Systems.sender_of setup c ≢ Rattle.domain_core.specs.Systems.receiver_of setup c
+    apart : (c : ℕ) → c < 1 → Rattle.domain_core.specs.definitions.runs.Systems.sender_of setup c ≢ Rattle.domain_core.specs.definitions.runs.Systems.receiver_of setup c
     apart zero h = λ e. omega arith
     apart (suc c) h = absurd (omega arith)
 
 -- the ticks and the join
+
+abbrev sending : Tick
+sending = as_whole 1 (Seq (SendWaits 0 (pos 5)) (Emit 0 None)) (quiet 1 (SendWaits 0 (pos 5)) zeros)
 
 abbrev receiving : Tick
 receiving = as_whole 1 (Seq (ReceiveWaits 0) (Emit 1 None)) (quiet 1 (ReceiveWaits 0) zeros)
@@ -133,10 +139,7 @@ abbrev the_join : JoinRecord
 the_join = record { value = pos 5; sender_ticks = 1; receiver_ticks = 1 }
 
 abbrev s3 : SystemState
-s3 = record {
-  domain = put_at (put_at s2.domain 0 (send_done 0 (s2.domain 0))) 1 (receive_done 0 (pos 5) (s2.domain 1));
-  joins = put_at s2.joins 0 (s2.joins 0 ++ the_join ∷ []);
-}
+s3 = joined setup 0 (pos 5) s2
 
 abbrev s4 : SystemState
 s4 = ticked setup 0 s3 (emitting 0)
@@ -145,26 +148,16 @@ abbrev s5 : SystemState
 s5 = ticked setup 1 s4 (emitting 1)
 
 makes1 : Makes setup 0 (start setup) sending
-makes1 = record { within = omega arith; goes_on = refl; ticks = (quiet 1 (SendWaits 0 (pos 5)) zeros, (pos 5, refl, refl), refl); code = omega arith }
+makes1 = record { within = omega arith; goes_on = refl; ticks = (quiet 1 (SendWaits 0 (pos 5)) zeros, (pos 5, refl, refl), refl); code = refl }
 
 makes2 : Makes setup 1 s1 receiving
-makes2 = record { within = omega arith; goes_on = refl; ticks = (quiet 1 (ReceiveWaits 0) zeros, refl, refl); code = omega arith }
-
-joins : JoinStep setup s2 0 the_join s3
-joins = record { sends = inl (refl, refl); receives = inl refl; sender_ticks = refl; receiver_ticks = refl; next = refl }
+makes2 = record { within = omega arith; goes_on = refl; ticks = (quiet 1 (ReceiveWaits 0) zeros, refl, refl); code = refl }
 
 makes4 : Makes setup 0 s3 (emitting 0)
-makes4 = record { within = omega arith; goes_on = refl; ticks = (ends_with [] zeros, refl, (emitting 0, (pos 0, refl, refl), refl)); code = omega arith }
+makes4 = record { within = omega arith; goes_on = refl; ticks = (ends_with [] zeros, refl, (emitting 0, (pos 0, refl, refl), refl)); code = refl }
 
 makes5 : Makes setup 1 s4 (emitting 1)
-makes5 = record { within = omega arith; goes_on = refl; ticks = (ends_with [] zeros, refl, (emitting 1, (pos 0, refl, refl), refl)); code = omega arith }
-
-no_join : (s : SystemState) (d : ℕ) → ((v : ℤ) → BothWait setup s 0 v → ⊥) → JoinsInTurn setup d 0 1 s [] s
-no_join s d h = inl ((λ e v w. h v w), (refl, refl))
-
-either : {A B : Type 0} → (A → ⊥) → (B → ⊥) → A ⊎ B → ⊥
-either f g (inl a) = f a
-either f g (inr b) = g b
+makes5 = record { within = omega arith; goes_on = refl; ticks = (ends_with [] zeros, refl, (emitting 1, (pos 0, refl, refl), refl)); code = refl }
 
 abbrev absent : List (Option ℤ)
 absent = None ∷ []
@@ -177,31 +170,22 @@ moves = MakesTick 0 absent ∷ MakesTick 1 absent ∷ MakesJoin 0 the_join ∷ M
 
 last_turns : TakesTurns setup s3 (0 ∷ 1 ∷ []) (MakesTick 0 present ∷ MakesTick 1 present ∷ []) s5
 last_turns =
-    turn_taken setup 0 s3 (emitting 0) (1 ∷ []) (MakesTick 1 present ∷ []) s5 makes4 (no_join s4 0 (λ v w. w.sends))
-    (turn_taken setup 1 s4 (emitting 1) [] [] s5 makes5 (no_join s5 1 (λ v w. w.sends)) (refl, refl))
+    turn_taken setup 0 s3 (emitting 0) (1 ∷ []) (MakesTick 1 present ∷ []) s5 makes4 (no_join setup 0 s4 (λ v w. w.sends))
+    (turn_taken setup 1 s4 (emitting 1) [] [] s5 makes5 (no_join setup 1 s5 (λ v w. w.sends)) (refl, refl))
 
 turned : TakesTurns setup (start setup) (0 ∷ 1 ∷ 0 ∷ 1 ∷ []) moves s5
 turned =
     turn_taken setup 0 (start setup) sending (1 ∷ 0 ∷ 1 ∷ []) (MakesTick 1 absent ∷ MakesJoin 0 the_join ∷ MakesTick 0 present ∷ MakesTick 1 present ∷ []) s5 makes1
-    (no_join s1 0 (λ v w. either (λ x. x) (λ x. x) w.receives))
-    (inr (
-      absent,
-      s2,
-      s3,
-      MakesJoin 0 the_join ∷ [],
-      MakesTick 0 present ∷ MakesTick 1 present ∷ [],
-      (omega arith, step_of setup 1 s1 receiving makes2),
-      inr (inr refl, (the_join, s3, [], (omega arith, joins), refl, (refl, refl))),
-      last_turns,
-      refl,
-    ))
+    (no_join setup 0 s1 (λ v w. either (λ x. x) (λ x. x) w.receives))
+    (turn_joined setup 1 s1 s3 receiving (0 ∷ 1 ∷ []) (MakesJoin 0 the_join ∷ []) (MakesTick 0 present ∷ MakesTick 1 present ∷ []) s5 makes2
+    (one_join setup 1 (pos 5) s2 (omega arith) (inr refl) (inl (refl, refl)) (inl refl)) last_turns)
 
 abbrev the_run : RunState
 the_run = record {
   logs =
-      record { entries = record { stamp = 1; statuses = absent } ∷ record { stamp = 3; statuses = present } ∷ []; mark = Ended; signals = 1; room = 0 } ∷
-      record { entries = record { stamp = 1; statuses = absent } ∷ record { stamp = 3; statuses = present } ∷ []; mark = Ended; signals = 1; room = 0 } ∷ [];
-  histories = record { rows = record { value = pos 5; sender_ticks = 1; receiver_ticks = 1; stamp = 2 } ∷ []; room = 0 } ∷ [];
+      record { entries = record { stamp = 1; statuses = absent } ∷ record { stamp = 3; statuses = present } ∷ []; mark = Ended } ∷
+      record { entries = record { stamp = 1; statuses = absent } ∷ record { stamp = 3; statuses = present } ∷ []; mark = Ended } ∷ [];
+  histories = (record { value = pos 5; sender_ticks = 1; receiver_ticks = 1; stamp = 2 } ∷ []) ∷ [];
 }
 
 all_ticks : (d : ℕ) → put_at (put_at (put_at (put_at (λ d. 0) 0 1) 1 1) 0 2) 1 2 d ≡ tick_count the_run d
@@ -217,13 +201,13 @@ all_joins : (c : ℕ) → put_at (λ c. 0) 0 1 c ≡ join_count the_run c
 all_joins zero = refl
 all_joins (suc c) = put_apart (λ c. 0) 0 1 (suc c) (λ e. omega arith)
 
-marks : (d : ℕ) → d < 2 → (log_of the_run d).mark ≡ mark_of (s5.domain d).ended
+marks : (d : ℕ) → d < 2 → (log_of the_run d).mark ≡ (s5.domain d).mark
 marks zero h = refl
 marks (suc zero) h = refl
 marks (suc (suc d)) h = absurd (omega arith)
 
-scheduled : IsScheduledRun setup the_run (0 ∷ 1 ∷ 0 ∷ 1 ∷ []) s5
-scheduled = record {
+shown : IsShownBy setup the_run (0 ∷ 1 ∷ 0 ∷ 1 ∷ []) s5
+shown = record {
   moves = moves;
   turned = turned;
   tells = (omega arith, refl, (omega arith, refl, (omega arith, refl, (omega arith, refl, (omega arith, refl, (all_ticks, all_joins))))));
@@ -243,5 +227,5 @@ one_rendezvous =
     })
     system
     (record { logs = refl; histories = refl })
-    scheduled
+    shown
     (rw (zero_text, one_text, two_text, three_text, five_text) refl)

@@ -1,28 +1,29 @@
 -- Small programs, their ticks and their runs.
-use Rattle.std.proofs.Common.{◌≡◌, inl, inr, ℕ, zero, suc, ◌<◌, ◌≤◌, true, false, ℤ, pos, List, [], ◌∷◌, length, get_or, map, refl, sym, ap, ◌∙◌, arith}
+use Rattle.std.proofs.Common.{◌≡◌, inl, inr, ℕ, zero, suc, ◌<◌, ◌≤◌, true, false, ℤ, pos, List, [], ◌∷◌, ◌++◌, length, get_or, map, refl, sym, ap, ◌∙◌, arith}
 use Rattle.std.specs.Prelude.{Option, Some, None, All, codes, decimal}
 use Rattle.std.proofs.lemmas.Fmt.{decimal_digit}
 use Rattle.kernel_terms.specs.declared.tables.Tables.{Tables}
 use Rattle.kernel_terms.specs.WellFormed.{stands_in, signals_of}
-use Rattle.kernel_terms.specs.Statements.{Stmt, Nothing, Pause, Emit, Seq, Loop}
-use Rattle.kernel_rules.specs.Signals.{Emission, put_at}
-use Rattle.kernel_rules.specs.TickRule.{Tick, Ticks, quiet, ends_with, as_whole}
-use Rattle.kernel_rules.specs.LegalTick.{shown_statuses}
-use Rattle.tick_log.specs.Runs.{Going, Ended, RunState, mark_of, log_of, tick_count}
-use Rattle.tick_log.specs.RunText.{run_text}
-use Rattle.domain_core.specs.BuiltForms.{Plain, whole}
-use Rattle.domain_core.specs.BuiltForms as built
-use Rattle.domain_core.specs.Systems.{Setup, SystemState, Move, MakesTick, TickStep, IsSystem, IsFresh, WaitsToSend, WaitsToReceive, start, domain_count, channel_count}
-use Rattle.domain_core.specs.LegalRuns.{Fits}
-use Rattle.domain_core.specs.Scheduled.{JoinsInTurn, TakesTurns, IsScheduledRun}
-use Rattle.domain_core.proofs.Places.{put_apart}
-use Rattle.domain_core.proofs.Turns.{scheduled_runs_are_whole}
-use Rattle.domain_core.proofs.Rendezvous.{env_in, after, legal_tick, zeros}
+use Rattle.kernel_terms.specs.Marks.{Going, Ended, is_over}
+use Rattle.kernel_terms.specs.MayEnd.{LoopsWait}
+use Rattle.kernel_terms.specs.Statements.{Stmt, Nothing, Pause, Emit, Seq, Loop, sequence, sequence_from}
+use Rattle.kernel_rules.specs.definitions.Signals.{Emission, put_at}
+use Rattle.kernel_rules.specs.definitions.TickRule.{Tick, Ticks, quiet, ends_with, as_whole}
+use Rattle.kernel_rules.specs.definitions.LegalTick.{no_inputs, is_tick_code, shown_statuses}
+use Rattle.tick_tree.specs.definitions.Weight.{weight_of}
+use Rattle.tick_log.specs.definitions.Runs.{RunState, log_of, tick_count}
+use Rattle.tick_log.specs.definitions.RunText.{run_text}
+use Rattle.domain_core.specs.definitions.runs.Systems.{Setup, SystemState, Move, MakesTick, IsSystem, IsFresh, WaitsToSend, WaitsToReceive, start, domain_count, channel_count}
+use Rattle.domain_core.specs.definitions.runs.LegalRuns.{Fits}
+use Rattle.domain_core.specs.definitions.runs.Scheduled.{JoinsInTurn, TakesTurns, TellsFrom}
+use Rattle.domain_core.specs.runs.StampsByStep.{StampsFrom}
+use Rattle.domain_core.proofs.lemmas.runs.Places.{put_apart}
+use Rattle.domain_core.proofs.lemmas.runs.Turns.{scheduled_by_step, scheduled_runs_are_whole}
+use Rattle.domain_core.proofs.lemmas.runs.WorkedRuns.{env_in, ticked, takes_turn, zeros}
 use Rattle.sj_main.specs.declared.commands.Turns.{Turns}
 use Rattle.sj_main.specs.declared.commands.Turns.TheVariants.{Each}
-use Rattle.sj_main.specs.definitions.Grammar.{Done, PauseThen, EmitThen, WhileThen, SignalPort, Program}
-use Rattle.sj_main.specs.definitions.Programs.{domain_statements, tables_of_program, setup_of, emits_of}
-use Rattle.sj_main.specs.definitions.Weight.{weight_of}
+use Rattle.sj_main.specs.definitions.Grammar.{Block, Done, EmptyThen, PauseThen, EmitThen, WhileThen, SendThen, ReceiveThen, SignalPort, Program, blocks_of}
+use Rattle.sj_main.specs.definitions.Programs.{Interface, interface_of, parts_of, block_statement, tables_of_program, setup_of, emits_of}
 use Rattle.sj_main.specs.definitions.Accepted.{Uses, IsSourceOf}
 use Rattle.sj_main.specs.definitions.RunWeight.{turns_of_program}
 use Rattle.sj_main.specs.definitions.Verdicts.{CanRun, IsRunOf}
@@ -52,77 +53,95 @@ all_more n t ts h a (suc k) d l = a k d (omega arith)
 
 -- no statement of a program waits at its start
 
-no_send : (c : ℕ) (v : ℤ) (p : Plain) → WaitsToSend c v (whole p) → ⊥
-no_send c v built.Nothing w = w
-no_send c v built.Pause w = w
-no_send c v (built.Emit s) w = w
-no_send c v (built.Seq p q) w = elim w [ inl x ↦ no_send c v p x | inr x ↦ no_send c v q x ]
-no_send c v (built.Loop p) w = no_send c v p w
-no_send c v (built.Send d n) w = w
-no_send c v (built.Receive d) w = w
+record IsWaitless (p : Stmt) : Type 0 where
+  sends : (c : ℕ) (v : ℤ) → WaitsToSend c v p → ⊥
+  receives : (c : ℕ) → WaitsToReceive c p → ⊥
 
-no_receive : (c : ℕ) (p : Plain) → WaitsToReceive c (whole p) → ⊥
-no_receive c built.Nothing w = w
-no_receive c built.Pause w = w
-no_receive c (built.Emit s) w = w
-no_receive c (built.Seq p q) w = elim w [ inl x ↦ no_receive c p x | inr x ↦ no_receive c q x ]
-no_receive c (built.Loop p) w = no_receive c p w
-no_receive c (built.Send d n) w = w
-no_receive c (built.Receive d) w = w
+AreWaitless : List Stmt → Type 0
+AreWaitless [] = Unit {0}
+AreWaitless (p ∷ ps) = IsWaitless p × AreWaitless ps
 
-sends_of_none : (ps : List Plain) (d c : ℕ) (v : ℤ) → WaitsToSend c v (get_or (map whole ps) d Nothing) → ⊥
-sends_of_none [] d c v w = w
-sends_of_none (p ∷ ps) zero c v w = no_send c v p w
-sends_of_none (p ∷ ps) (suc d) c v w = sends_of_none ps d c v w
+waitless_both : (p q : Stmt) → IsWaitless p → IsWaitless q → IsWaitless (Seq p q)
+waitless_both p q a b = record { sends = λ c v w. elim w [ inl x ↦ a.sends c v x | inr x ↦ b.sends c v x ]; receives = λ c w. elim w [ inl x ↦ a.receives c x | inr x ↦ b.receives c x ] }
 
-receives_of_none : (ps : List Plain) (d c : ℕ) → WaitsToReceive c (get_or (map whole ps) d Nothing) → ⊥
-receives_of_none [] d c w = w
-receives_of_none (p ∷ ps) zero c w = no_receive c p w
-receives_of_none (p ∷ ps) (suc d) c w = receives_of_none ps d c w
+waitless_from : (p : Stmt) (ps : List Stmt) → IsWaitless p → AreWaitless ps → IsWaitless (sequence_from p ps)
+unfolding AreWaitless
+waitless_from p [] a b = a
+waitless_from p (q ∷ ps) a b = waitless_both p (sequence_from q ps) a (waitless_from q ps b.0 b.1)
 
-pub fresh : (p : Program) → IsFresh (setup_of p)
-fresh p = record { sends = λ d c v w. sends_of_none (domain_statements p) d c v w; receives = λ d c w. receives_of_none (domain_statements p) d c w }
+waitless_sequence : (ps : List Stmt) → AreWaitless ps → IsWaitless (sequence ps)
+unfolding AreWaitless
+waitless_sequence [] a = record { sends = λ c v w. w; receives = λ c w. w }
+waitless_sequence (p ∷ ps) a = waitless_from p ps a.0 a.1
+
+waitless_parts : (i : Interface) (b : Block) → AreWaitless (parts_of i b)
+unfolding AreWaitless
+waitless_parts i Done = tt
+waitless_parts i (EmptyThen rest) = (record { sends = λ c v w. w; receives = λ c w. w }, waitless_parts i rest)
+waitless_parts i (PauseThen rest) = (record { sends = λ c v w. w; receives = λ c w. w }, waitless_parts i rest)
+waitless_parts i (EmitThen name rest) = (record { sends = λ c v w. w; receives = λ c w. w }, waitless_parts i rest)
+waitless_parts i (WhileThen body rest) =
+    let a = waitless_sequence (parts_of i body) (waitless_parts i body) in
+    (record { sends = λ c v w. a.sends c v w; receives = λ c w. a.receives c w }, waitless_parts i rest)
+waitless_parts i (SendThen name n rest) = (record { sends = λ c v w. w; receives = λ c w. w }, waitless_parts i rest)
+waitless_parts i (ReceiveThen name rest) = (record { sends = λ c v w. w; receives = λ c w. w }, waitless_parts i rest)
+
+waitless_domains : (i : Interface) (bs : List Block) (d : ℕ) → IsWaitless (get_or (map (block_statement i) bs) d Nothing)
+waitless_domains i [] d = record { sends = λ c v w. w; receives = λ c w. w }
+waitless_domains i (b ∷ bs) zero = waitless_sequence (parts_of i b) (waitless_parts i b)
+waitless_domains i (b ∷ bs) (suc d) = waitless_domains i bs d
+
+pub fresh : (p : Program) → IsFresh (setup_of p no_inputs)
+fresh p = record { sends = λ d c v w. (waitless_domains (interface_of p.ports) (blocks_of p) d).sends c v w; receives = λ d c w. (waitless_domains (interface_of p.ports) (blocks_of p) d).receives c w }
 
 -- turns that are taken
-
-abbrev pub statuses_in : Setup → ℕ → SystemState → Tick → List (Option ℤ)
-statuses_in p d s o = shown_statuses p.tables d (env_in p (s.domain d) o)
-
-abbrev pub ticked : Setup → ℕ → SystemState → Tick → SystemState
-ticked p d s o = record s { domain = put_at s.domain d (after p d (s.domain d) o) }
 
 -- the tick that a domain makes in a state
 pub record Makes (p : Setup) (d : ℕ) (s : SystemState) (o : Tick) : Type 0 where
   pub within : d < domain_count p
-  pub goes_on : (s.domain d).ended ≡ false
+  pub goes_on : (s.domain d).mark ≡ Going
   pub ticks : Ticks p.tables (s.domain d).last (s.domain d).statement (env_in p (s.domain d) o) (s.domain d).variables o
-  pub code : o.code ≤ 1
+  pub code : is_tick_code o.code ≡ true
 
-pub step_of : (p : Setup) (d : ℕ) (s : SystemState) (o : Tick) → Makes p d s o → TickStep p s d (statuses_in p d s o) (ticked p d s o)
-step_of p d s o m = record { after = after p d (s.domain d) o; legal = legal_tick p d (s.domain d) o m.goes_on m.ticks m.code; next = refl }
+-- a turn, after which these joins are made
+pub turn_joined : (p : Setup) (d : ℕ) (s mid : SystemState) (o : Tick) (turns : List ℕ) (joins more : List Move) (end : SystemState) → Makes p d s o → JoinsInTurn p d 0 (channel_count p) (ticked p d s o) joins mid
+    → TakesTurns p mid turns more end → TakesTurns p s (d ∷ turns) (MakesTick d (shown_statuses p.tables d (env_in p (s.domain d) o)) ∷ (joins ++ more)) end
+turn_joined p d s mid o turns joins more end m j rest = takes_turn p d turns s mid end o joins more m.within m.goes_on m.ticks m.code j rest
 
 -- a turn after which nothing is joined
 pub turn_taken : (p : Setup) (d : ℕ) (s : SystemState) (o : Tick) (turns : List ℕ) (more : List Move) (end : SystemState) → Makes p d s o → JoinsInTurn p d 0 (channel_count p) (ticked p d s o) [] (ticked p d s o)
-    → TakesTurns p (ticked p d s o) turns more end → TakesTurns p s (d ∷ turns) (MakesTick d (statuses_in p d s o) ∷ more) end
-turn_taken p d s o turns more end m j rest = inr (statuses_in p d s o, ticked p d s o, ticked p d s o, [], more, (m.within, step_of p d s o m), j, rest, refl)
+    → TakesTurns p (ticked p d s o) turns more end → TakesTurns p s (d ∷ turns) (MakesTick d (shown_statuses p.tables d (env_in p (s.domain d) o)) ∷ more) end
+turn_taken p d s o turns more end m j rest = turn_joined p d s (ticked p d s o) o turns [] more end m j rest
 
 -- the turn of an ended domain
-pub turn_skipped : (p : Setup) (d : ℕ) (s : SystemState) (turns : List ℕ) (moves : List Move) (end : SystemState) → (s.domain d).ended ≡ true → TakesTurns p s turns moves end → TakesTurns p s (d ∷ turns) moves end
+pub turn_skipped : (p : Setup) (d : ℕ) (s : SystemState) (turns : List ℕ) (moves : List Move) (end : SystemState) → is_over (s.domain d).mark ≡ true → TakesTurns p s turns moves end → TakesTurns p s (d ∷ turns) moves end
 turn_skipped p d s turns moves end e rest = inl (e, rest)
 
--- the run of a source is told by its scheduled run
-pub told_run : (bytes : List ℕ) (turns : Turns) (text : List ℕ) (p : Program) (run : RunState) (end : SystemState) → IsSourceOf bytes p → CanRun p turns → IsSystem (setup_of p) → Fits (setup_of p) run
-    → IsScheduledRun (setup_of p) run (turns_of_program p turns) end → text ≡ run_text (tables_of_program p) run → IsRunOf bytes turns text
-told_run bytes turns text p run end source can system fits scheduled is = record {
-  program = p;
-  source = source;
-  can = can;
-  run = run;
-  last = end;
-  scheduled = scheduled;
-  whole = scheduled_runs_are_whole (setup_of p) run (turns_of_program p turns) end system (fresh p) fits scheduled;
-  is = is;
-}
+-- the moves of turns, and the logs and histories that show them
+pub record IsShownBy (p : Setup) (run : RunState) (turns : List ℕ) (end : SystemState) : Type 0 where
+  pub moves : List Move
+  pub turned : TakesTurns p (start p) turns moves end
+  pub tells : TellsFrom run (λ d. 0) (λ c. 0) moves
+  pub stamps : StampsFrom p run (λ d. 0) (λ c. 0) (λ d. 0) (λ d. 0) moves
+  pub marks : (d : ℕ) → d < domain_count p → (log_of run d).mark ≡ (end.domain d).mark
+
+-- the run of a source is told by its turns
+pub told_run : (bytes : List ℕ) (turns : Turns) (text : List ℕ) (p : Program) (run : RunState) (end : SystemState) → IsSourceOf bytes p → CanRun p turns → IsSystem (setup_of p no_inputs) → Fits (setup_of p no_inputs) run
+    → IsShownBy (setup_of p no_inputs) run (turns_of_program p turns) end → text ≡ run_text (tables_of_program p) run → IsRunOf bytes turns text
+told_run bytes turns text p run end source can system fits shown is =
+    let setup = setup_of p no_inputs in
+    let all = turns_of_program p turns in
+    let scheduled = scheduled_by_step setup run all shown.moves end system (fresh p) fits shown.turned shown.tells shown.stamps shown.marks in
+    record {
+      program = p;
+      source = source;
+      can = can;
+      run = run;
+      last = end;
+      scheduled = scheduled;
+      whole = scheduled_runs_are_whole setup run all end system (fresh p) fits scheduled;
+      is = is;
+    }
 
 -- one domain, and no channel
 
@@ -132,11 +151,11 @@ past_first f x d = put_apart f 0 x (suc d) (λ e. omega arith)
 no_channels : (p : Setup) → channel_count p ≡ 0 → IsSystem p
 no_channels p e = record { sender = λ c h. absurd (omega arith); receiver = λ c h. absurd (omega arith); apart = λ c h. absurd (omega arith) }
 
-no_uses : (uses : Plain → List ℕ) (s d : ℕ) → uses built.Nothing ≡ [] → Uses uses [] d s → ⊥
+no_uses : (uses : Stmt → List ℕ) (s d : ℕ) → uses Nothing ≡ [] → Uses uses [] d s → ⊥
 no_uses uses s d n k = let z : false ≡ true = sym (ap (stands_in s) n) ∙ k in cc
 
 -- a number that stands in a list stands in that of the first domain
-one_owner : (uses : Plain → List ℕ) (p : Plain) (s d e : ℕ) → uses built.Nothing ≡ [] → Uses uses (p ∷ []) d s → Uses uses (p ∷ []) e s → d ≡ e
+one_owner : (uses : Stmt → List ℕ) (p : Stmt) (s d e : ℕ) → uses Nothing ≡ [] → Uses uses (p ∷ []) d s → Uses uses (p ∷ []) e s → d ≡ e
 one_owner uses p s zero zero n h k = refl
 one_owner uses p s zero (suc e) n h k = absurd (no_uses uses s e n k)
 one_owner uses p s (suc d) e n h k = absurd (no_uses uses s d n h)
@@ -150,15 +169,15 @@ abbrev empty : Program
 empty = record { ports = []; first = Done; others = [] }
 
 -- the static rules of one domain without channels
-record KeepsOne (p : Plain) : Type 0 where
-  loops : built.LoopsWait p
+record KeepsOne (p : Stmt) : Type 0 where
+  loops : LoopsWait p
   weight : weight_of p ≤ 100000
 
-one_loops : (p : Plain) → KeepsOne p → (d : ℕ) → built.LoopsWait (get_or (p ∷ []) d built.Nothing)
+one_loops : (p : Stmt) → KeepsOne p → (d : ℕ) → LoopsWait (get_or (p ∷ []) d Nothing)
 one_loops p k zero = k.loops
 one_loops p k (suc d) = tt
 
-one_weight : (p : Plain) → KeepsOne p → (d : ℕ) → weight_of (get_or (p ∷ []) d built.Nothing) ≤ 100000
+one_weight : (p : Stmt) → KeepsOne p → (d : ℕ) → weight_of (get_or (p ∷ []) d Nothing) ≤ 100000
 one_weight p k zero = k.weight
 one_weight p k (suc d) = omega arith
 
@@ -169,10 +188,10 @@ empty_is_source = record {
   rules = record {
     ports = record {
       names = record { distinct = refl; channels = omega arith; domains = omega arith; blocks = (record { declared = tt; depth = omega arith }, tt) };
-      owners = record { emitters = λ s d e h k. one_owner emits_of built.Nothing s d e refl h k; few = λ d l. omega arith; joined = λ c l. absurd (omega arith) };
+      owners = record { emitters = λ s d e h k. one_owner emits_of Nothing s d e refl h k; few = λ d l. omega arith; joined = λ c l. absurd (omega arith) };
     };
-    loops = one_loops built.Nothing (record { loops = tt; weight = omega arith });
-    weight = one_weight built.Nothing (record { loops = tt; weight = omega arith });
+    loops = one_loops Nothing (record { loops = tt; weight = omega arith });
+    weight = one_weight Nothing (record { loops = tt; weight = omega arith });
   };
 }
 
@@ -180,27 +199,27 @@ abbrev ends_at_once : Tick
 ends_at_once = ends_with [] zeros
 
 abbrev empty_end : SystemState
-empty_end = ticked (setup_of empty) 0 (start (setup_of empty)) ends_at_once
+empty_end = ticked (setup_of empty no_inputs) 0 (start (setup_of empty no_inputs)) ends_at_once
 
 abbrev empty_run : RunState
-empty_run = record { logs = record { entries = record { stamp = 1; statuses = [] } ∷ []; mark = Ended; signals = 0; room = 0 } ∷ []; histories = [] }
+empty_run = record { logs = record { entries = record { stamp = 1; statuses = [] } ∷ []; mark = Ended } ∷ []; histories = [] }
 
 empty_ticks : (d : ℕ) → put_at (λ d. 0) 0 1 d ≡ tick_count empty_run d
 empty_ticks zero = refl
 empty_ticks (suc d) = past_first (λ d. 0) 1 d
 
-empty_marks : (d : ℕ) → d < 1 → (log_of empty_run d).mark ≡ mark_of (empty_end.domain d).ended
+empty_marks : (d : ℕ) → d < 1 → (log_of empty_run d).mark ≡ (empty_end.domain d).mark
 empty_marks zero h = refl
 empty_marks (suc d) h = absurd (omega arith)
 
 pub nothing_in_one_turn : IsRunOf empty_source (Each (0 ∷ [])) (codes "domain 0 ticks 1 ended\n1 @1\n")
 nothing_in_one_turn = told_run empty_source (Each (0 ∷ [])) (codes "domain 0 ticks 1 ended\n1 @1\n") empty empty_run empty_end empty_is_source
     (record { fit = all_more 1 0 [] (omega arith) (all_none 1); weight = omega arith })
-    (no_channels (setup_of empty) refl)
+    (no_channels (setup_of empty no_inputs) refl)
     (record { logs = refl; histories = refl })
     (record {
       moves = MakesTick 0 [] ∷ [];
-      turned = turn_taken (setup_of empty) 0 (start (setup_of empty)) ends_at_once [] [] empty_end (record { within = omega arith; goes_on = refl; ticks = refl; code = omega arith }) (refl, refl) (refl, refl);
+      turned = turn_taken (setup_of empty no_inputs) 0 (start (setup_of empty no_inputs)) ends_at_once [] [] empty_end (record { within = omega arith; goes_on = refl; ticks = refl; code = refl }) (refl, refl) (refl, refl);
       tells = (omega arith, refl, (empty_ticks, λ c. refl));
       stamps = (refl, tt);
       marks = empty_marks;
@@ -208,20 +227,20 @@ nothing_in_one_turn = told_run empty_source (Each (0 ∷ [])) (codes "domain 0 t
     (rw (zero_text, one_text) refl)
 
 abbrev still_run : RunState
-still_run = record { logs = record { entries = []; mark = Going; signals = 0; room = 0 } ∷ []; histories = [] }
+still_run = record { logs = record { entries = []; mark = Going } ∷ []; histories = [] }
 
 no_ticks : (d : ℕ) → 0 ≡ tick_count still_run d
 no_ticks zero = refl
 no_ticks (suc d) = refl
 
-still_marks : (d : ℕ) → d < 1 → (log_of still_run d).mark ≡ mark_of ((start (setup_of empty)).domain d).ended
+still_marks : (d : ℕ) → d < 1 → (log_of still_run d).mark ≡ ((start (setup_of empty no_inputs)).domain d).mark
 still_marks zero h = refl
 still_marks (suc d) h = absurd (omega arith)
 
 pub nothing_in_no_turn : IsRunOf empty_source (Each []) (codes "domain 0 ticks 0 paused\n")
-nothing_in_no_turn = told_run empty_source (Each []) (codes "domain 0 ticks 0 paused\n") empty still_run (start (setup_of empty)) empty_is_source
+nothing_in_no_turn = told_run empty_source (Each []) (codes "domain 0 ticks 0 paused\n") empty still_run (start (setup_of empty no_inputs)) empty_is_source
     (record { fit = all_none 1; weight = omega arith })
-    (no_channels (setup_of empty) refl)
+    (no_channels (setup_of empty no_inputs) refl)
     (record { logs = refl; histories = refl })
     (record { moves = []; turned = (refl, refl); tells = (no_ticks, λ c. refl); stamps = tt; marks = still_marks })
     (rw zero_text refl)
@@ -234,8 +253,8 @@ blink_source = codes "system{interface{output signal A;}{emit A;pause;emit A;}}"
 abbrev blink : Program
 blink = record { ports = SignalPort (codes "A") ∷ []; first = EmitThen (codes "A") (PauseThen (EmitThen (codes "A") Done)); others = [] }
 
-abbrev blinks : Plain
-blinks = built.Seq (built.Emit 0) (built.Seq built.Pause (built.Emit 0))
+abbrev blinks : Stmt
+blinks = Seq (Emit 0 None) (Seq Pause (Emit 0 None))
 
 few_of_one : (t : Tables) (n d : ℕ) → length (signals_of t 0) ≤ 1024 → n ≡ 1 → d < n → length (signals_of t d) ≤ 1024
 few_of_one t n zero h e l = h
@@ -268,14 +287,14 @@ abbrev first_blink : Tick
 first_blink = record (as_whole 1 (Seq Nothing (Emit 0 None)) pausing) { emits = of_signal 0 ∷ [] }
 
 abbrev blink1 : SystemState
-blink1 = ticked (setup_of blink) 0 (start (setup_of blink)) first_blink
+blink1 = ticked (setup_of blink no_inputs) 0 (start (setup_of blink no_inputs)) first_blink
 
 abbrev blink2 : SystemState
-blink2 = ticked (setup_of blink) 0 blink1 (emitting 0)
+blink2 = ticked (setup_of blink no_inputs) 0 blink1 (emitting 0)
 
 abbrev blink_run : RunState
 blink_run = record {
-  logs = record { entries = record { stamp = 1; statuses = Some (pos 0) ∷ [] } ∷ record { stamp = 2; statuses = Some (pos 0) ∷ [] } ∷ []; mark = Ended; signals = 1; room = 0 } ∷ [];
+  logs = record { entries = record { stamp = 1; statuses = Some (pos 0) ∷ [] } ∷ record { stamp = 2; statuses = Some (pos 0) ∷ [] } ∷ []; mark = Ended } ∷ [];
   histories = [];
 }
 
@@ -283,13 +302,13 @@ blink_ticks : (d : ℕ) → put_at (put_at (λ d. 0) 0 1) 0 2 d ≡ tick_count b
 blink_ticks zero = refl
 blink_ticks (suc d) = past_first (put_at (λ d. 0) 0 1) 2 d ∙ past_first (λ d. 0) 1 d
 
-blink_marks : (d : ℕ) → d < 1 → (log_of blink_run d).mark ≡ mark_of (blink2.domain d).ended
+blink_marks : (d : ℕ) → d < 1 → (log_of blink_run d).mark ≡ (blink2.domain d).mark
 blink_marks zero h = refl
 blink_marks (suc d) h = absurd (omega arith)
 
 pub blink_in_three_turns : IsRunOf blink_source (Each (0 ∷ 0 ∷ 0 ∷ [])) (codes "domain 0 ticks 2 ended\n1 @1 A\n2 @2 A\n")
 blink_in_three_turns =
-    let p = setup_of blink in
+    let p = setup_of blink no_inputs in
     told_run blink_source (Each (0 ∷ 0 ∷ 0 ∷ [])) (codes "domain 0 ticks 2 ended\n1 @1 A\n2 @2 A\n") blink blink_run blink2 blink_is_source
     (record { fit = all_more 1 0 (0 ∷ 0 ∷ []) (omega arith) (all_more 1 0 (0 ∷ []) (omega arith) (all_more 1 0 [] (omega arith) (all_none 1))); weight = omega arith })
     (no_channels p refl)
@@ -298,10 +317,10 @@ blink_in_three_turns =
       moves = MakesTick 0 (Some (pos 0) ∷ []) ∷ MakesTick 0 (Some (pos 0) ∷ []) ∷ [];
       turned =
           turn_taken p 0 (start p) first_blink (0 ∷ 0 ∷ []) (MakesTick 0 (Some (pos 0) ∷ []) ∷ []) blink2
-          (record { within = omega arith; goes_on = refl; ticks = (emitting 0, (pos 0, refl, refl), (as_whole 1 (Seq Nothing (Emit 0 None)) pausing, (pausing, refl, refl), refl)); code = omega arith })
+          (record { within = omega arith; goes_on = refl; ticks = (emitting 0, (pos 0, refl, refl), (as_whole 1 (Seq Nothing (Emit 0 None)) pausing, (pausing, refl, refl), refl)); code = refl })
           (refl, refl)
           (turn_taken p 0 blink1 (emitting 0) (0 ∷ []) [] blink2
-          (record { within = omega arith; goes_on = refl; ticks = (ends_at_once, refl, (emitting 0, (pos 0, refl, refl), refl)); code = omega arith })
+          (record { within = omega arith; goes_on = refl; ticks = (ends_at_once, refl, (emitting 0, (pos 0, refl, refl), refl)); code = refl })
           (refl, refl)
           (turn_skipped p 0 blink2 [] [] blink2 refl (refl, refl)));
       tells = (omega arith, refl, (omega arith, refl, (blink_ticks, λ c. refl)));
@@ -318,8 +337,8 @@ loop_source = codes "system{interface{output signal A;output signal B;}{while(tr
 abbrev looping : Program
 looping = record { ports = SignalPort (codes "A") ∷ SignalPort (codes "B") ∷ []; first = WhileThen (EmitThen (codes "A") (PauseThen (EmitThen (codes "B") Done))) Done; others = [] }
 
-abbrev loops : Plain
-loops = built.Loop (built.Seq (built.Emit 0) (built.Seq built.Pause (built.Emit 1)))
+abbrev loops : Stmt
+loops = Loop (Seq (Emit 0 None) (Seq Pause (Emit 1 None)))
 
 loop_is_source : IsSourceOf loop_source looping
 loop_is_source = record {
@@ -348,13 +367,13 @@ abbrev loop_restarts : Tick
 loop_restarts = record loop_starts { emits = of_signal 1 ∷ of_signal 0 ∷ [] }
 
 abbrev loop1 : SystemState
-loop1 = ticked (setup_of looping) 0 (start (setup_of looping)) loop_starts
+loop1 = ticked (setup_of looping no_inputs) 0 (start (setup_of looping no_inputs)) loop_starts
 
 abbrev loop2 : SystemState
-loop2 = ticked (setup_of looping) 0 loop1 loop_restarts
+loop2 = ticked (setup_of looping no_inputs) 0 loop1 loop_restarts
 
 abbrev loop3 : SystemState
-loop3 = ticked (setup_of looping) 0 loop2 loop_restarts
+loop3 = ticked (setup_of looping no_inputs) 0 loop2 loop_restarts
 
 abbrev both : List (Option ℤ)
 both = Some (pos 0) ∷ Some (pos 0) ∷ []
@@ -364,8 +383,6 @@ loop_run = record {
   logs = record {
     entries = record { stamp = 1; statuses = Some (pos 0) ∷ None ∷ [] } ∷ record { stamp = 2; statuses = both } ∷ record { stamp = 3; statuses = both } ∷ [];
     mark = Going;
-    signals = 2;
-    room = 0;
   } ∷ [];
   histories = [];
 }
@@ -374,19 +391,19 @@ loop_ticks : (d : ℕ) → put_at (put_at (put_at (λ d. 0) 0 1) 0 2) 0 3 d ≡ 
 loop_ticks zero = refl
 loop_ticks (suc d) = past_first (put_at (put_at (λ d. 0) 0 1) 0 2) 3 d ∙ past_first (put_at (λ d. 0) 0 1) 2 d ∙ past_first (λ d. 0) 1 d
 
-loop_marks : (d : ℕ) → d < 1 → (log_of loop_run d).mark ≡ mark_of (loop3.domain d).ended
+loop_marks : (d : ℕ) → d < 1 → (log_of loop_run d).mark ≡ (loop3.domain d).mark
 loop_marks zero h = refl
 loop_marks (suc d) h = absurd (omega arith)
 
-makes_start : Makes (setup_of looping) 0 (start (setup_of looping)) loop_starts
+makes_start : Makes (setup_of looping no_inputs) 0 (start (setup_of looping no_inputs)) loop_starts
 makes_start = record {
   within = omega arith;
   goes_on = refl;
   ticks = (body_pauses, (emitting 0, (pos 0, refl, refl), (as_whole 1 (Seq Nothing (Emit 1 None)) pausing, (pausing, refl, refl), refl)), refl, refl);
-  code = omega arith;
+  code = refl;
 }
 
-makes_second : Makes (setup_of looping) 0 loop1 loop_restarts
+makes_second : Makes (setup_of looping no_inputs) 0 loop1 loop_restarts
 makes_second = record {
   within = omega arith;
   goes_on = refl;
@@ -395,10 +412,10 @@ makes_second = record {
     (ends_at_once, refl, (emitting 1, (pos 0, refl, refl), refl)),
     (loop_starts, (body_pauses, (emitting 0, (pos 0, refl, refl), (as_whole 1 (Seq Nothing (Emit 1 None)) pausing, (pausing, refl, refl), refl)), refl, refl), refl),
   );
-  code = omega arith;
+  code = refl;
 }
 
-makes_third : Makes (setup_of looping) 0 loop2 loop_restarts
+makes_third : Makes (setup_of looping no_inputs) 0 loop2 loop_restarts
 makes_third = record {
   within = omega arith;
   goes_on = refl;
@@ -407,12 +424,12 @@ makes_third = record {
     (ends_at_once, refl, (emitting 1, (pos 0, refl, refl), refl)),
     (loop_starts, (body_pauses, (emitting 0, (pos 0, refl, refl), (as_whole 1 (Seq Nothing (Emit 1 None)) pausing, (pausing, refl, refl), refl)), refl, refl), refl),
   );
-  code = omega arith;
+  code = refl;
 }
 
 pub loop_in_three_turns : IsRunOf loop_source (Each (0 ∷ 0 ∷ 0 ∷ [])) (codes "domain 0 ticks 3 paused\n1 @1 A\n2 @2 A B\n3 @3 A B\n")
 loop_in_three_turns =
-    let p = setup_of looping in
+    let p = setup_of looping no_inputs in
     told_run loop_source (Each (0 ∷ 0 ∷ 0 ∷ [])) (codes "domain 0 ticks 3 paused\n1 @1 A\n2 @2 A B\n3 @3 A B\n") looping loop_run loop3 loop_is_source
     (record { fit = all_more 1 0 (0 ∷ 0 ∷ []) (omega arith) (all_more 1 0 (0 ∷ []) (omega arith) (all_more 1 0 [] (omega arith) (all_none 1))); weight = omega arith })
     (no_channels p refl)

@@ -3,13 +3,14 @@ use Rattle.std.proofs.Common.{inl, inr, ℕ, List, refl, ap}
 use Rattle.std.specs.Prelude.{Option, Some, None, IfSome, codes}
 use Rattle.kernel_terms.specs.Systems.{tables_of}
 use Rattle.sj_io.specs.Sinks.{TakesFront}
-use Rattle.tick_log.specs.RunText.{run_state, run_text}
+use Rattle.tick_log.specs.definitions.RunText.{run_text}
+use Rattle.tick_log.specs.definitions.Holding.{run_state}
 use Rattle.sj_main.specs.declared.commands.Turns.{Turns}
 use Rattle.sj_main.specs.declared.order.Made.{Made}
 use Rattle.sj_main.specs.declared.order.OrderError.TheVariants as error
-use Rattle.sj_main.specs.Words.{IsCommand}
-use Rattle.sj_main.specs.Orders.{IsMadeFrom, IsWhy, BeginsOrder, BeginsAnswer, TellsWeight, PrintsWeight}
-use Rattle.sj_main.specs.definitions.Commands.{IsOrder, IsNoCommand}
+use Rattle.sj_main.specs.definitions.Answers.{BeginsAnswer, PrintsWeight}
+use Rattle.sj_main.specs.Orders.{IsMadeFrom, IsWhy, BeginsOrder, TellsWeight}
+use Rattle.sj_main.specs.definitions.Commands.{IsOrder, IsNoCommand, IsCommand}
 use Rattle.sj_main.specs.definitions.Verdicts.{usage_line, misfit_line, overweight_line, IsRunOf, IsRefusal, Outcome, Done, Refused, NoCommand, Misfit, ReadFault, NoMemory, Overweight, IsOrderAnswer, ToNoCommand, ToOrder}
 
 -- to the order of a file

@@ -5,9 +5,9 @@ use Rattle.std.specs.declared.alloc.Global.{Global}
 use Rattle.std.specs.declared.string.String.{String}
 use Rattle.std.specs.Str.{bytes_eq}
 use Rattle.std.proofs.lemmas.Slice.Eq.{bytes_eq-Decides}
-use Rattle.sj_main.specs.Words.{word_list, NoTurns, HasTurns, AreOrderWords, NoOrderWords, IsCommand}
+use Rattle.sj_main.specs.Words.{NoTurns, HasTurns, AreOrderWords, NoOrderWords}
 use Rattle.sj_main.specs.declared.commands.Turns.{Turns}
-use Rattle.sj_main.specs.definitions.Commands.{IsTurns, IsOrder, IsNoCommand}
+use Rattle.sj_main.specs.definitions.Commands.{IsTurns, IsOrder, IsNoCommand, word_list, IsCommand}
 
 pub four_words : (words : List (String Global)) (a b c d : String Global) → length words ≡ 4 → a ≡ get_or words 0 a → b ≡ get_or words 1 b → c ≡ get_or words 2 c → d ≡ get_or words 3 d
     → word_list words ≡ string_bytes a ∷ string_bytes b ∷ string_bytes c ∷ string_bytes d ∷ []

@@ -6,8 +6,6 @@ pub mod ReadingBlocks
 pub mod ReadingNames
 pub mod ReadingPrograms
 pub mod ReadingOwners
-pub mod Shapes
-pub mod Weights
 pub mod StaticRules
 pub mod Words
 pub mod Orders

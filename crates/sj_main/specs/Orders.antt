@@ -1,14 +1,14 @@
--- What `order` makes, and what the program writes.
+-- What the steps of `order` make and answer.
 use Rattle.std.specs.Prelude.{◌≡◌, ℕ, ◌<◌, ◌≤◌, List, length, Option, IfSome}
 use Rattle.kernel_terms.specs.declared.system.System.{System}
 use Rattle.kernel_terms.specs.Systems.{tables_of, domains_of}
-use Rattle.sj_io.specs.Causes.{Rose}
 use Rattle.sj_io.specs.Sinks.{TakesMore, TakesFront}
-use Rattle.tick_log.specs.Runs.{RunState}
-use Rattle.tick_log.specs.RunText.{run_state}
-use Rattle.domain_core.specs.Systems.{SystemState}
-use Rattle.domain_core.specs.Scheduled.{IsScheduledRun, IsWholeRun}
-use Rattle.gals_core.specs.OrderPlans.{IsOrderRun}
+use Rattle.tick_log.specs.definitions.Runs.{RunState}
+use Rattle.tick_log.specs.definitions.Holding.{run_state}
+use Rattle.kernel_rules.specs.definitions.LegalTick.{no_inputs}
+use Rattle.domain_core.specs.definitions.runs.Systems.{SystemState}
+use Rattle.domain_core.specs.definitions.runs.Scheduled.{IsScheduledRun, IsWholeRun}
+use Rattle.gals_core.specs.definitions.OrderRuns.{IsOrderRun}
 use Rattle.sj_main.specs.declared.commands.Turns.{Turns}
 use Rattle.sj_main.specs.declared.order.Made.{Made}
 use Rattle.sj_main.specs.declared.order.OrderError.{OrderError}
@@ -16,9 +16,9 @@ use Rattle.sj_main.specs.declared.order.OrderError.TheVariants.{Fault, Size, Not
 use Rattle.sj_main.specs.definitions.Grammar.{Program}
 use Rattle.sj_main.specs.definitions.Programs.{tables_of_program, setup_of}
 use Rattle.sj_main.specs.definitions.Accepted.{most_source_bytes, IsSourceOf, IsAccepted}
-use Rattle.sj_main.specs.definitions.Commands.{turns_for, FitDomains, budgets_for, IsOrder}
+use Rattle.sj_main.specs.definitions.Commands.{turns_for, FitDomains, budgets_for}
 use Rattle.sj_main.specs.definitions.RunWeight.{most_run_weight, run_weight, turns_of_program}
-use Rattle.sj_main.specs.definitions.Verdicts.{CanRun, IsRunOf, IsRefusal, IsMisfit, IsOverweight, OrdersSuch, Outcome, IsOrderAnswer, IsAnswer, overweight_line}
+use Rattle.sj_main.specs.definitions.Verdicts.{CanRun, IsMisfit, IsOverweight, Outcome, IsOrderAnswer, overweight_line}
 
 -- the system and the run are those of the bytes and the turns
 pub record IsMadeFrom (bytes : List ℕ) (turns : Turns) (made : Made) : Type 0 where
@@ -27,14 +27,14 @@ pub record IsMadeFrom (bytes : List ℕ) (turns : Turns) (made : Made) : Type 0 
   pub can : CanRun program turns
   pub tables : tables_of made.system ≡ tables_of_program program
   pub last : SystemState
-  pub scheduled : IsScheduledRun (setup_of program) (run_state made.run) (turns_of_program program turns) last
-  pub whole : IsWholeRun (setup_of program) (run_state made.run) (turns_of_program program turns)
+  pub scheduled : IsScheduledRun (setup_of program no_inputs) (run_state made.run) (turns_of_program program turns) last
+  pub whole : IsWholeRun (setup_of program no_inputs) (run_state made.run) (turns_of_program program turns)
 
 -- the turns fit the system's domains, their run isn't too heavy, and this is it
 pub record RunsTurns (system : System) (turns : Turns) (run : RunState) : Type 0 where
   pub fit : FitDomains turns (length (domains_of system))
   pub weight : run_weight (tables_of system) (budgets_for turns (length (domains_of system))) ≤ most_run_weight
-  pub is : IsOrderRun system (turns_for turns (length (domains_of system))) run
+  pub is : IsOrderRun system no_inputs (turns_for turns (length (domains_of system))) run
 
 -- the turns fit, and their run has this weight, which is above the limit
 pub record WeighsTooMuch (system : System) (turns : Turns) (weight : ℕ) : Type 0 where
@@ -60,47 +60,15 @@ IsWhy bytes turns DomainsDoNotFit = IsMisfit bytes turns
 IsWhy bytes turns (OverWeight weight) = IsOverweight bytes turns weight
 IsWhy bytes turns NoMemory = Unit {0}
 
--- the sink took the text of the run
-pub record PrintsRun (bytes : List ℕ) (turns : Turns) (old new : Option (List ℕ)) : Type 0 where
-  pub text : List ℕ
-  pub is : IsRunOf bytes turns text
-  pub takes : TakesMore old new text
-
--- the sink took the line of the refusal
-pub record PrintsRefusal (bytes : List ℕ) (old new : Option (List ℕ)) : Type 0 where
-  pub text : List ℕ
-  pub is : IsRefusal bytes text
-  pub takes : TakesMore old new text
-
 -- the run of the turns has a weight above the limit, and the sink took its line
 pub record TellsWeight (told : Option (List ℕ)) (turns : Turns) (old new : Option (List ℕ)) : Type 0 where
   pub weight : ℕ
   pub is : IfSome told (λ bytes. IsOverweight bytes turns weight)
   pub takes : TakesMore old new (overweight_line weight)
 
--- the words order such a run, and the sink took its line
-pub record PrintsWeight (words : List (List ℕ)) (told : List ℕ → Option (List ℕ)) (old new : Option (List ℕ)) : Type 0 where
-  pub weight : ℕ
-  pub orders : OrdersSuch words told (λ bytes turns. IsOverweight bytes turns weight)
-  pub takes : TakesMore old new (overweight_line weight)
-
--- the words order a file whose count of faults rose
-pub record FailsToRead (words : List (List ℕ)) (faults faults' : List ℕ → ℕ) : Type 0 where
-  pub file : List ℕ
-  pub turns : Turns
-  pub command : IsOrder words file turns
-  pub rose : Rose (faults file) (faults' file)
-
 -- the sink took a front of the text that some answer to the order of these bytes has
 pub record BeginsOrder (told : Option (List ℕ)) (turns : Turns) (old new : Option (List ℕ)) : Type 0 where
   pub outcome : Outcome
   pub text : List ℕ
   pub is : IsOrderAnswer told turns outcome text
-  pub takes : TakesFront old new text
-
--- the sink took a front of the text that some answer to the words has
-pub record BeginsAnswer (words : List (List ℕ)) (told : List ℕ → Option (List ℕ)) (old new : Option (List ℕ)) : Type 0 where
-  pub outcome : Outcome
-  pub text : List ℕ
-  pub is : IsAnswer words told outcome text
   pub takes : TakesFront old new text

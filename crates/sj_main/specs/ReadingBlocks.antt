@@ -2,7 +2,7 @@
 use Rattle.std.specs.Prelude.{◌≡◌, ℕ, ◌+◌, ◌≤◌, ℤ, List, [], ◌∷◌, ◌++◌, length, map}
 use Rattle.kernel_terms.specs.declared.term.Term.{Term}
 use Rattle.sj_main.specs.BuiltTerms.{IsBuilt, AreBuilt}
-use Rattle.domain_core.specs.BuiltForms.{plain, sequence}
+use Rattle.kernel_terms.specs.Statements.{statement, sequence}
 use Rattle.sj_main.specs.declared.token.Token.{Token}
 use Rattle.sj_main.specs.declared.token.Token.TheVariants.{Reserved, Sign, Name, Number}
 use Rattle.sj_main.specs.declared.token.Word.TheVariants as word
@@ -51,7 +51,7 @@ pub record Reads (i : Interface) (level : ℕ) (start : List Token) (terms : Lis
   pub before : Block → Block
   pub there : (b : Block) (after : List Token) → IsClosed rest b after → IsClosed start (before b) after
   pub keeps : (b : Block) → IsBlock i level b → IsBlock i level (before b)
-  pub parts : (b : Block) → parts_of i (before b) ≡ map plain terms ++ parts_of i b
+  pub parts : (b : Block) → parts_of i (before b) ≡ map statement terms ++ parts_of i b
   pub back : (b : Block) (after : List Token) → IsClosed start b after → IsBlock i level b → Remains i level rest after
   pub fits : AreBuilt i terms
   pub shorter : length rest + length terms ≤ length start
@@ -61,7 +61,7 @@ pub record IsRead (i : Interface) (level : ℕ) (tokens : List Token) (terms : L
   pub block : Block
   pub closed : IsClosed tokens block after
   pub keeps : IsBlock i level block
-  pub parts : map plain terms ≡ parts_of i block
+  pub parts : map statement terms ≡ parts_of i block
   pub fits : AreBuilt i terms
 
 -- no block that keeps the rules
@@ -111,5 +111,5 @@ pub record NoLoop (i : Interface) (level : ℕ) (start : List Token) : Type 0 wh
 
 -- the term stands for the terms one after another, and is of the built forms where they are
 pub record IsSequence (term : Term) (terms : List Term) : Type 0 where
-  pub meaning : plain term ≡ sequence (map plain terms)
+  pub meaning : statement term ≡ sequence (map statement terms)
   pub built : (i : Interface) → AreBuilt i terms → IsBuilt i term

@@ -9,17 +9,17 @@ use Rattle.kernel_terms.specs.WellFormed.{stands_in}
 use Rattle.sj_main.specs.declared.reader.owners.Role.{Role}
 use Rattle.sj_main.specs.declared.reader.owners.Role.TheVariants as role
 use Rattle.sj_main.specs.BuiltTerms.{AreBuilt}
-use Rattle.domain_core.specs.BuiltForms.{Plain, plain}
+use Rattle.kernel_terms.specs.Statements.{Stmt, statement}
 use Rattle.sj_main.specs.definitions.Programs.{Interface, emits_of, sends_of, receives_of, first_with, signals_from, channels_from, tables_for}
 use Rattle.sj_main.specs.definitions.Accepted.{Uses, KeepsOwners}
 
 -- the signals or channels that a domain has in this role
-abbrev pub numbers_of : Role → Plain → List ℕ
+abbrev pub numbers_of : Role → Stmt → List ℕ
 numbers_of role.Emitter = emits_of
 numbers_of role.Sender = sends_of
 numbers_of role.Receiver = receives_of
 
-abbrev pub numbers_of_all : Role → List Plain → List ℕ
+abbrev pub numbers_of_all : Role → List Stmt → List ℕ
 numbers_of_all r [] = []
 numbers_of_all r (p ∷ ps) = numbers_of r p ++ numbers_of_all r ps
 
@@ -54,20 +54,20 @@ pub record IsContested (domain : ℕ) (old : List (Option ℕ)) (numbers : List 
 -- those of the parts before the front are marked
 pub record MarksReach (r : Role) (domain : ℕ) (old new : List (Option ℕ)) (all front : List Term) : Type 0 where
   pub done : List ℕ
-  pub parts : numbers_of_all r (map plain all) ≡ done ++ numbers_of_all r (map plain front)
+  pub parts : numbers_of_all r (map statement all) ≡ done ++ numbers_of_all r (map statement front)
   pub marked : Marked domain old new done
-  pub within : AreBelow (numbers_of_all r (map plain front)) (length old)
+  pub within : AreBelow (numbers_of_all r (map statement front)) (length old)
 
 -- each number belongs to the one domain that has it
-pub record HasOwners (r : Role) (ps : List Plain) : Type 0 where
+pub record HasOwners (r : Role) (ps : List Stmt) : Type 0 where
   pub alone : (n d : ℕ) → Uses (numbers_of r) ps d n → first_with (numbers_of r) n 0 ps ≡ Some d
 
-pub record AreOwners (r : Role) (ps : List Plain) (owners : List (Option ℕ)) : Type 0 where
+pub record AreOwners (r : Role) (ps : List Stmt) (owners : List (Option ℕ)) : Type 0 where
   pub is : (n : ℕ) → get_or owners n None ≡ first_with (numbers_of r) n 0 ps
   pub kept : HasOwners r ps
 
 -- a number that two domains have
-pub record IsShared (r : Role) (ps : List Plain) : Type 0 where
+pub record IsShared (r : Role) (ps : List Stmt) : Type 0 where
   pub number : ℕ
   pub first : ℕ
   pub second : ℕ
@@ -88,14 +88,14 @@ limit_of role.Receiver i = length i.channels
 
 -- the owners of the domains before the front
 pub record OwnersReach (r : Role) (i : Interface) (all front : List Term) (owners : List (Option ℕ)) (domain : ℕ) : Type 0 where
-  pub done : List Plain
-  pub parts : map plain all ≡ done ++ map plain front
+  pub done : List Stmt
+  pub parts : map statement all ≡ done ++ map statement front
   pub number : length done ≡ domain
   pub found : AreOwners r done owners
   pub size : length owners ≡ limit_of r i
   pub built : AreBuilt i front
 
-pub record OwnersFound (r : Role) (i : Interface) (ps : List Plain) (owners : List (Option ℕ)) : Type 0 where
+pub record OwnersFound (r : Role) (i : Interface) (ps : List Stmt) (owners : List (Option ℕ)) : Type 0 where
   pub are : AreOwners r ps owners
   pub size : length owners ≡ limit_of r i
 
@@ -145,12 +145,12 @@ pub record IsFull (signals : List SignalInfo) (domains : ℕ) : Type 0 where
   pub many : most_signals < count_of domain signals
 
 -- the tables of the domains, which keep the rules on owners
-pub record AreTablesOf (i : Interface) (ps : List Plain) (tables : Tables) : Type 0 where
+pub record AreTablesOf (i : Interface) (ps : List Stmt) (tables : Tables) : Type 0 where
   pub is : tables ≡ tables_for i ps
   pub keeps : KeepsOwners i ps
   pub emitters : HasOwners role.Emitter ps
   pub senders : HasOwners role.Sender ps
   pub receivers : HasOwners role.Receiver ps
 
-pub record BreaksOwners (i : Interface) (ps : List Plain) : Type 0 where
+pub record BreaksOwners (i : Interface) (ps : List Stmt) : Type 0 where
   pub none : KeepsOwners i ps → ⊥

@@ -7,7 +7,7 @@ use Rattle.kernel_terms.specs.declared.system.System.{System}
 use Rattle.kernel_terms.specs.Systems.{tables_of, domains_of}
 use Rattle.kernel_terms.specs.Limits.{most_domains}
 use Rattle.sj_main.specs.BuiltTerms.{IsBuilt, AreBuilt}
-use Rattle.domain_core.specs.BuiltForms.{plain}
+use Rattle.kernel_terms.specs.Statements.{statement}
 use Rattle.sj_main.specs.declared.token.Token.{Token}
 use Rattle.sj_main.specs.declared.token.Token.TheVariants.{Reserved, Sign}
 use Rattle.sj_main.specs.declared.token.Word.TheVariants as word
@@ -63,7 +63,7 @@ pub record ReadsDomain (i : Interface) (start : List Token) (term : Term) (rest 
   pub block : Block
   pub is : start ≡ domain_tokens block rest
   pub keeps : KeepsBlock i block
-  pub meaning : plain term ≡ block_statement i block
+  pub meaning : statement term ≡ block_statement i block
   pub built : IsBuilt i term
 
 pub record NoDomain (i : Interface) (start : List Token) : Type 0 where
@@ -84,7 +84,7 @@ pub record DomainsReach (i : Interface) (start : List Token) (terms : List Term)
   pub there : (more : List Block) → AreOthers front more → AreDomains start first (others ++ more)
   pub back : (b : Block) (all : List Block) → AreDomains start b all → (b ≡ first) × (more : List Block) × (all ≡ others ++ more) × AreOthers front more
   pub keeps : KeepBlocks i (first ∷ others)
-  pub meaning : map plain terms ≡ map (block_statement i) (first ∷ others)
+  pub meaning : map statement terms ≡ map (block_statement i) (first ∷ others)
   pub built : AreBuilt i terms
   pub few : length (first ∷ others) ≤ most_domains
 
@@ -93,7 +93,7 @@ pub record DomainsRead (i : Interface) (start : List Token) (terms : List Term) 
   pub others : List Block
   pub is : AreDomains start first others
   pub keeps : KeepBlocks i (first ∷ others)
-  pub meaning : map plain terms ≡ map (block_statement i) (first ∷ others)
+  pub meaning : map statement terms ≡ map (block_statement i) (first ∷ others)
   pub built : AreBuilt i terms
   pub few : length (first ∷ others) ≤ most_domains
 
@@ -114,7 +114,7 @@ pub record IsReadFrom (tokens : List Token) (system : System) : Type 0 where
   pub is : tokens ≡ program_tokens program
   pub rules : KeepsPorts program
   pub tables : tables_of system ≡ tables_of_program program
-  pub domains : map plain (domains_of system) ≡ domain_statements program
+  pub domains : map statement (domains_of system) ≡ domain_statements program
   pub built : AreBuilt (interface_of program.ports) (domains_of system)
 
 pub record NoProgram (tokens : List Token) : Type 0 where

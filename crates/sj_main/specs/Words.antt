@@ -1,14 +1,9 @@
--- The words of the command line as lists of bytes, and what the steps of their reading answer.
-use Rattle.std.specs.Prelude.{◌≡◌, ◌⊎◌, ℕ, ◌+◌, ◌<◌, ◌≤◌, List, [], ◌∷◌, ◌++◌, length, get_or, map, string_bytes, codes}
-use Rattle.std.specs.declared.alloc.Global.{Global}
-use Rattle.std.specs.declared.string.String.{String}
-use Rattle.domain_core.specs.Scheduled.{turns_of}
+-- What the steps of the reading of words answer.
+use Rattle.std.specs.Prelude.{◌≡◌, ◌⊎◌, ℕ, ◌+◌, ◌<◌, ◌≤◌, List, [], ◌∷◌, ◌++◌, length, get_or, codes}
+use Rattle.domain_core.specs.definitions.runs.Scheduled.{turns_of}
 use Rattle.sj_main.specs.declared.commands.Turns.{Turns}
 use Rattle.sj_main.specs.declared.commands.Turns.TheVariants.{Rounds, Each}
-use Rattle.sj_main.specs.definitions.Commands.{most_turns, turn_text, turns_text, AreDomains, IsEach, IsRounds, IsTurns, IsOrder}
-
-abbrev pub word_list : List (String Global) → List (List ℕ)
-word_list = map (λ w. string_bytes w)
+use Rattle.sj_main.specs.definitions.Commands.{most_turns, turn_text, turns_text, AreDomains, IsEach, IsRounds, IsTurns}
 
 -- the bytes begin with the number of a domain from 10 to 15
 pub record BeginsTwo (word : List ℕ) (domain : ℕ) (rest : List ℕ) : Type 0 where
@@ -105,11 +100,6 @@ pub record AreOrderWords (words : List (List ℕ)) (file turns : List ℕ) : Typ
 
 pub record NoOrderWords (words : List (List ℕ)) : Type 0 where
   pub none : (file turns : List ℕ) → words ≡ codes "order" ∷ file ∷ turns ∷ codes "-" ∷ [] → ⊥
-
-pub record IsCommand (words : List (List ℕ)) : Type 0 where
-  pub file : List ℕ
-  pub turns : Turns
-  pub command : IsOrder words file turns
 
 -- no domain has more turns than one may have
 abbrev pub AreFew : Turns → Type 0

@@ -1,6 +1,4 @@
 -- What the program promises is said in these terms.
-pub mod Trees
-pub mod Weight
 pub mod Tokens
 pub mod Grammar
 pub mod Programs
@@ -8,3 +6,4 @@ pub mod Accepted
 pub mod Commands
 pub mod RunWeight
 pub mod Verdicts
+pub mod Answers

@@ -1,32 +1,39 @@
 // Reads a source and looks at the static rules.
 
-ghost use Rattle.std.specs.Prelude.{◌≤◌, IfOk, MatchOption, length, map, IsTrue, ◌↔◌};
-ghost use Rattle.domain_core.specs.BuiltForms.{plain};
+ghost use Rattle.std.specs.Prelude.{◌≡◌, ◌≤◌, true, IfOk, MatchOption, length, map, IsTrue, ◌↔◌};
+ghost use Rattle.std.specs.List.{list_all};
+ghost use Rattle.kernel_terms.specs.Statements.{statement};
+ghost use Rattle.tick_tree.specs.definitions.Exits.{exits_fit};
 ghost use Rattle.sj_main.specs.StaticRules.{KeepsStaticRules, AllKeepStaticRules, IsRefused};
 ghost use Rattle.sj_main.specs.Rules.{Accepts};
 
+use crate::loops::loops_wait;
 use crate::reader::read_source;
-use crate::shape::loops_wait;
-use crate::weight::weight;
 use java_values::NoMemory;
 use kernel_terms::{System, Term};
 use std::alloc::Global;
+use tick_tree::{system_exits_fit, tell_first, weight};
 
 /// How much a domain may weigh.
 const MOST_WEIGHT: u64 = 100_000;
 
 // Whether the statement keeps the rules on loops and weight.
+#[tactic(auto, using(crate::proofs::Acceptance::rules_by_weight))]
 fn keeps_static_rules(term: &Term) -> bool
-    ensures { IsTrue result ↔ KeepsStaticRules (plain term.now) }
+    requires fits { exits_fit (statement term.now) ≡ true }
+    ensures { IsTrue result ↔ KeepsStaticRules (statement term.now) }
 {
     loops_wait(term) && weight(term) <= MOST_WEIGHT
 }
 
 // Whether the statement of each domain does.
 fn all_keep_static_rules(domains: &[Term]) -> bool
-    ensures { IsTrue result ↔ AllKeepStaticRules (map plain domains.now) }
+    requires fit { list_all exits_fit (map statement domains.now) ≡ true }
+    ensures { IsTrue result ↔ AllKeepStaticRules (map statement domains.now) }
 {
-    for term in domains {
+    for i in 0..domains.len() {
+        let term = &domains[i];
+        tell_first(domains, i, term);
         if !keeps_static_rules(term) {
             return false;
         }
@@ -42,6 +49,7 @@ pub fn accept(alloc: Global, bytes: &[u8]) -> Result<Option<System>, NoMemory>
     let Some(system) = read_source(alloc, bytes)? else {
         return Ok(None);
     };
+    system_exits_fit();
     if !all_keep_static_rules(system.domains()) {
         return Ok(None);
     }

@@ -3,9 +3,9 @@
 #[cfg(test)]
 mod tests;
 
-ghost use Rattle.std.specs.Prelude.{◌≡◌, ◌≢◌, ◌∷◌, ◌++◌, ◌+◌, ◌<◌, ◌≤◌, List, ℕ, IfOk, OnErr, MatchBool, MatchOption, length, codes};
-ghost use Rattle.sj_main.specs.Words.{word_list, BeginsTwo, NoTwo, BeginsTurn, NoTurn, NoList, IsLast, IsMore, HasList, NoFewTurns, IsTurnList, NoEach, HasEach, NoRounds, NoTurns, HasTurns, AreOrderWords, NoOrderWords, IsCommand};
-ghost use Rattle.sj_main.specs.definitions.Commands.{most_turns, whole_number, IsEach, IsRounds, IsTurns, IsOrder, IsNoCommand};
+ghost use Rattle.std.specs.Prelude.{◌≡◌, ◌≢◌, ◌∷◌, ◌++◌, ◌+◌, ◌<◌, List, ℕ, IfOk, OnErr, MatchBool, MatchOption, codes};
+ghost use Rattle.sj_main.specs.Words.{BeginsTwo, NoTwo, BeginsTurn, NoTurn, NoList, IsLast, IsMore, HasList, NoFewTurns, IsTurnList, NoEach, HasEach, NoRounds, NoTurns, HasTurns, AreOrderWords, NoOrderWords};
+ghost use Rattle.sj_main.specs.definitions.Commands.{most_turns, whole_number, IsEach, IsRounds, IsTurns, IsOrder, IsNoCommand, word_list, IsCommand};
 
 use crate::reader::numbers::number_in;
 use java_values::NoMemory;

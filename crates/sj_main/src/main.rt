@@ -3,16 +3,16 @@
 
 mod accept;
 mod commands;
+mod laws;
+mod loops;
 mod order;
 mod reader;
 mod rows;
 mod serve;
-mod shape;
 #[cfg(test)]
 mod tests;
 mod token;
 mod turns;
-mod weight;
 
 use serve::{answer, serve_plain};
 use sj_io::{HostFiles, HostName, HostSink};

@@ -3,10 +3,9 @@
 ghost use Rattle.std.specs.Prelude.{◌≡◌, ◌<◌, ℕ, length, IfErr, IfOk, IfSome, IsErrOf};
 ghost use Rattle.kernel_terms.specs.Systems.{domains_of};
 ghost use Rattle.sj_io.specs.Causes.{Rose};
-ghost use Rattle.tick_log.specs.Fits.{FitsSystem};
-ghost use Rattle.tick_log.specs.RunText.{run_state};
-ghost use Rattle.domain_core.specs.Compiling.{CanCompile};
-ghost use Rattle.gals_core.specs.OrderPlans.{AreDomainsOf};
+ghost use Rattle.tick_log.specs.definitions.Holding.{run_state, HoldsRun};
+ghost use Rattle.domain_core.specs.definitions.step.Compiling.{CanCompile};
+ghost use Rattle.gals_core.specs.definitions.OrderPlans.{AreDomainsOf};
 ghost use Rattle.sj_main.specs.Words.{AreFew};
 ghost use Rattle.sj_main.specs.Orders.{IsMadeFrom, IsWhy, RunsTurns, IsWhyNoRun};
 
@@ -99,6 +98,7 @@ fn run_of(alloc: Global, system: &System, turns: &Turns) -> Result<Run, OrderErr
     requires can { (d : ℕ) → d < length (domains_of system.now) → CanCompile system.now d }
     requires few { AreFew turns.now }
     ensures runs { IfOk result (λ run. RunsTurns system.now turns.now (run_state run)) }
+    ensures holds { IfOk result (λ run. HoldsRun system.now run) }
     ensures why { IfErr result (λ e. IsWhyNoRun system.now turns.now e) }
 {
     let count = domain_count(system);
@@ -125,7 +125,7 @@ pub fn order<F: Files>(
 ) -> Result<Made, OrderError>
     requires { AreFew turns.now }
     ensures made { IfOk result (λ made. IfSome (F.told files.old file.now) (λ bytes. IsMadeFrom bytes turns.now made)) }
-    ensures fits { IfOk result (λ made. FitsSystem made.system (run_state made.run)) }
+    ensures holds { IfOk result (λ made. HoldsRun made.system made.run) }
     ensures fault { IsErrOf result OrderError.Fault → Rose (F.faults files.old file.now) (F.faults files.new file.now) }
     ensures why { IfErr result (λ e. IfSome (F.told files.old file.now) (λ bytes. IsWhy bytes turns.now e)) }
 {

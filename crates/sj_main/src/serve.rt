@@ -1,12 +1,13 @@
 // The top call.
 
-ghost use Rattle.std.specs.Prelude.{◌≡◌, ◌≢◌, ◌⊎◌, ◌≤◌, true, List, ℕ, IfSome, codes};
+ghost use Rattle.std.specs.Prelude.{◌≡◌, ◌≢◌, ◌⊎◌, ◌≤◌, true, IfSome, codes};
 ghost use Rattle.sj_io.specs.Causes.{Rose};
 ghost use Rattle.sj_io.specs.Sinks.{TakesMore, TakesFront};
 ghost use Rattle.tick_log.specs.Puts.{Puts};
-ghost use Rattle.sj_main.specs.Words.{word_list, AreFew, IsCommand};
-ghost use Rattle.sj_main.specs.Orders.{PrintsRun, PrintsRefusal, PrintsWeight, FailsToRead, BeginsAnswer, BeginsOrder, TellsWeight};
-ghost use Rattle.sj_main.specs.definitions.Commands.{IsNoCommand};
+ghost use Rattle.sj_main.specs.Words.{AreFew};
+ghost use Rattle.sj_main.specs.definitions.Answers.{PrintsRun, PrintsRefusal, PrintsWeight, FailsToRead, BeginsAnswer};
+ghost use Rattle.sj_main.specs.Orders.{BeginsOrder, TellsWeight};
+ghost use Rattle.sj_main.specs.definitions.Commands.{IsNoCommand, word_list, IsCommand};
 ghost use Rattle.sj_main.specs.definitions.Verdicts.{usage_line, misfit_line, overweight_line, IsMisfit, OrdersSuch};
 
 use crate::commands::{Turns, read_order};

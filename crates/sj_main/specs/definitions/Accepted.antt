@@ -5,8 +5,9 @@ use Rattle.std.specs.Str.{bytes_eq}
 use Rattle.java_values.specs.Names.{are_distinct}
 use Rattle.kernel_terms.specs.Limits.{most_domains, most_channels, most_signals}
 use Rattle.kernel_terms.specs.WellFormed.{stands_in, signals_of}
-use Rattle.domain_core.specs.BuiltForms.{Plain, Nothing, LoopsWait}
-use Rattle.sj_main.specs.definitions.Weight.{weight_of}
+use Rattle.kernel_terms.specs.Statements.{Stmt, Nothing}
+use Rattle.kernel_terms.specs.MayEnd.{LoopsWait}
+use Rattle.tick_tree.specs.definitions.Weight.{weight_of, most_weight}
 use Rattle.sj_main.specs.definitions.Tokens.{Spells}
 use Rattle.sj_main.specs.definitions.Grammar.{Block, Done, EmptyThen, PauseThen, EmitThen, WhileThen, SendThen, ReceiveThen, Port, SignalPort, ChannelPort, Program, blocks_of, program_tokens}
 use Rattle.sj_main.specs.definitions.Programs.{Interface, interface_of, domain_statements, emits_of, sends_of, receives_of, tables_for}
@@ -16,9 +17,6 @@ most_source_bytes = 1048576
 
 abbrev pub most_open : ℕ
 most_open = 64
-
-abbrev pub most_weight : ℕ
-most_weight = 100000
 
 abbrev pub port_name : Port → List ℕ
 port_name (SignalPort name) = name
@@ -68,24 +66,24 @@ pub record KeepsNames (p : Program) : Type 0 where
   pub blocks : KeepBlocks (interface_of p.ports) (blocks_of p)
 
 -- the number stands in the list of this domain
-abbrev pub Uses : (Plain → List ℕ) → List Plain → ℕ → ℕ → Type 0
+abbrev pub Uses : (Stmt → List ℕ) → List Stmt → ℕ → ℕ → Type 0
 Uses uses ps d n = stands_in n (uses (get_or ps d Nothing)) ≡ true
 
 -- it stands in the list of one domain alone
-pub record HasOne (uses : Plain → List ℕ) (ps : List Plain) (n : ℕ) : Type 0 where
+pub record HasOne (uses : Stmt → List ℕ) (ps : List Stmt) (n : ℕ) : Type 0 where
   pub domain : ℕ
   pub is : Uses uses ps domain n
   pub only : (d : ℕ) → Uses uses ps d n → d ≡ domain
 
 -- one domain sends on the channel, and another one receives
-pub record Joins (ps : List Plain) (c : ℕ) : Type 0 where
+pub record Joins (ps : List Stmt) (c : ℕ) : Type 0 where
   pub sender : HasOne sends_of ps c
   pub receiver : HasOne receives_of ps c
   pub apart : sender.domain ≢ receiver.domain
 
 -- The rules on the domains to which signals and channels belong: no two domains emit one signal, few
 -- signals belong to one domain, and each channel joins two.
-pub record KeepsOwners (i : Interface) (ps : List Plain) : Type 0 where
+pub record KeepsOwners (i : Interface) (ps : List Stmt) : Type 0 where
   pub emitters : (s d e : ℕ) → Uses emits_of ps d s → Uses emits_of ps e s → d ≡ e
   pub few : (d : ℕ) → d < length ps → length (signals_of (tables_for i ps) d) ≤ most_signals
   pub joined : (c : ℕ) → c < length i.channels → Joins ps c

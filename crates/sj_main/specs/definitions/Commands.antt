@@ -1,7 +1,9 @@
 -- The words of a command.
-use Rattle.std.specs.Prelude.{◌≡◌, ℕ, zero, suc, ◌+◌, ◌<◌, ◌≤◌, ◌==◌, nat_lt, cond, List, [], ◌∷◌, ◌++◌, map, All, Option, Some, None, codes}
+use Rattle.std.specs.Prelude.{◌≡◌, ℕ, zero, suc, ◌+◌, ◌<◌, ◌≤◌, ◌==◌, nat_lt, cond, List, [], ◌∷◌, ◌++◌, map, All, Option, Some, None, codes, string_bytes}
 use Rattle.std.specs.List.{range_with_len}
-use Rattle.domain_core.specs.Scheduled.{turns_of}
+use Rattle.std.specs.declared.alloc.Global.{Global}
+use Rattle.std.specs.declared.string.String.{String}
+use Rattle.domain_core.specs.definitions.runs.Scheduled.{turns_of}
 use Rattle.sj_main.specs.definitions.Tokens.{number_from}
 use Rattle.sj_main.specs.declared.commands.Turns.{Turns}
 use Rattle.sj_main.specs.declared.commands.Turns.TheVariants.{Rounds, Each}
@@ -76,3 +78,13 @@ pub record IsOrder (words : List (List ℕ)) (file : List ℕ) (turns : Turns) :
 
 abbrev pub IsNoCommand : List (List ℕ) → Type 0
 IsNoCommand words = (file : List ℕ) (turns : Turns) → IsOrder words file turns → ⊥
+
+-- the words are some order
+pub record IsCommand (words : List (List ℕ)) : Type 0 where
+  pub file : List ℕ
+  pub turns : Turns
+  pub command : IsOrder words file turns
+
+-- the words of the command line as lists of bytes
+abbrev pub word_list : List (String Global) → List (List ℕ)
+word_list = map (λ w. string_bytes w)

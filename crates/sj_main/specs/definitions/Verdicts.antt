@@ -1,10 +1,11 @@
 -- What is answered, in the order in which it is looked for: the words, the reading of the source, its
 -- size, its grammar and rules, whether the turns fit its domains, the run's weight, and then the run.
 use Rattle.std.specs.Prelude.{◌≡◌, ◌⊎◌, ℕ, ◌<◌, ◌≤◌, List, ◌++◌, length, Option, IfSome, codes, decimal}
-use Rattle.tick_log.specs.Runs.{RunState}
-use Rattle.tick_log.specs.RunText.{run_text}
-use Rattle.domain_core.specs.Systems.{SystemState}
-use Rattle.domain_core.specs.Scheduled.{IsScheduledRun, IsWholeRun}
+use Rattle.tick_log.specs.definitions.Runs.{RunState}
+use Rattle.tick_log.specs.definitions.RunText.{run_text}
+use Rattle.kernel_rules.specs.definitions.LegalTick.{no_inputs}
+use Rattle.domain_core.specs.definitions.runs.Systems.{SystemState}
+use Rattle.domain_core.specs.definitions.runs.Scheduled.{IsScheduledRun, IsWholeRun}
 use Rattle.sj_main.specs.declared.commands.Turns.{Turns}
 use Rattle.sj_main.specs.definitions.Grammar.{Program}
 use Rattle.sj_main.specs.definitions.Programs.{tables_of_program, setup_of}
@@ -34,8 +35,8 @@ pub record IsRunOf (bytes : List ℕ) (turns : Turns) (text : List ℕ) : Type 0
   pub can : CanRun program turns
   pub run : RunState
   pub last : SystemState
-  pub scheduled : IsScheduledRun (setup_of program) run (turns_of_program program turns) last
-  pub whole : IsWholeRun (setup_of program) run (turns_of_program program turns)
+  pub scheduled : IsScheduledRun (setup_of program no_inputs) run (turns_of_program program turns) last
+  pub whole : IsWholeRun (setup_of program no_inputs) run (turns_of_program program turns)
   pub is : text ≡ run_text (tables_of_program program) run
 
 -- the first check that fails refuses the bytes with this line

@@ -1,4 +1,4 @@
-ghost use Rattle.std.specs.Prelude.{◌≡◌, ◌≤◌, ◌∷◌, [], IfOk, MatchBool, MatchOption, length};
+ghost use Rattle.std.specs.Prelude.{◌≡◌, ◌∷◌, [], IfOk, MatchBool, MatchOption};
 ghost use Rattle.sj_main.specs.declared.token.Token.TheVariants.{Sign};
 ghost use Rattle.sj_main.specs.declared.token.Mark.TheVariants as mark;
 ghost use Rattle.sj_main.specs.ReadingTokens.{tokens_of};

@@ -1,6 +1,6 @@
-ghost use Rattle.std.specs.Prelude.{◌≡◌, ◌+◌, ◌≤◌, ◌<◌, IfOk, IfSome, MatchOption, length, Some, None, []};
+ghost use Rattle.std.specs.Prelude.{◌≡◌, ◌≤◌, ◌<◌, IfOk, MatchOption, length, Some, None};
 ghost use Rattle.sj_main.specs.definitions.Tokens.{skip_white, run_token, sign_front, next_token, Spells};
-ghost use Rattle.sj_main.specs.ReadingTokens.{tokens_of, Lexed, run_front, SpellsNothing};
+ghost use Rattle.sj_main.specs.ReadingTokens.{tokens_of, run_front, SpellsNothing};
 
 use super::numbers::literal_value;
 use super::words::{is_letter, is_word_byte, sign_token, white_len, word_len, word_token};

@@ -1,4 +1,4 @@
-ghost use Rattle.std.specs.Prelude.{◌≡◌, ◌+◌, ◌≤◌, ◌<◌, [], ◌∷◌, ◌++◌, false, true, IfOk, IfSome, MatchOption, MatchBool, OnOk, length, map, get_or};
+ghost use Rattle.std.specs.Prelude.{◌≡◌, ◌<◌, [], false, true, IfOk, MatchOption, MatchBool, length, get_or};
 ghost use Rattle.std.specs.List.{list_any};
 ghost use Rattle.std.specs.Str.{bytes_eq};
 ghost use Rattle.sj_main.specs.ReadingNames.{set_names, names_of, AreFew, IsSmall, IsPlace, IsAdded, port_of, is_taken, Declared};

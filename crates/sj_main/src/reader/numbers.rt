@@ -1,4 +1,4 @@
-ghost use Rattle.std.specs.Prelude.{◌≡◌, ◌≤◌, ◌<◌, pos, IfSome, Some, None};
+ghost use Rattle.std.specs.Prelude.{◌≡◌, ◌≤◌, ◌<◌, IfSome, Some, None};
 ghost use Rattle.sj_main.specs.definitions.Tokens.{digit_value, number_from, decimal, hexadecimal, after_mark, after_zero, literal_value};
 
 /// The value of a hexadecimal digit, and 16 for any other byte.

@@ -1,12 +1,12 @@
-ghost use Rattle.std.specs.Prelude.{◌≡◌, ◌<◌, ◌≤◌, ◌∷◌, [], IfOk, MatchOption, MatchBool, length, map, drop, cond, ◌+◌, slice_index_or};
-ghost use Rattle.domain_core.specs.BuiltForms.{plain};
+ghost use Rattle.std.specs.Prelude.{◌≡◌, ◌<◌, ◌≤◌, ◌∷◌, ◌++◌, [], IfOk, MatchOption, MatchBool, length, map, drop, cond, ◌+◌, slice_index_or};
+ghost use Rattle.kernel_terms.specs.Statements.{statement};
 ghost use Rattle.sj_main.specs.BuiltTerms.{AreBuilt};
-ghost use Rattle.sj_main.specs.ReadingNames.{names_of, set_names};
-ghost use Rattle.sj_main.specs.ReadingOwners.{numbers_of, numbers_of_all, AreBelow, Marked, IsContested, is_role, if_role, limit_of, AreOwners, IsShared, OwnersFound, AreUnowned};
+ghost use Rattle.sj_main.specs.ReadingNames.{names_of};
+ghost use Rattle.sj_main.specs.ReadingOwners.{numbers_of, numbers_of_all, AreBelow, Marked, IsContested, is_role, if_role, limit_of, IsShared, OwnersFound, AreUnowned};
 
 use crate::reader::names::Names;
 use java_values::NoMemory;
-use kernel_terms::{Form, Term};
+use kernel_terms::{Expr, Form, SigTest, Term};
 use std::alloc::Global;
 
 /// What a domain does with a signal or a channel.
@@ -58,31 +58,88 @@ fn claim_as(
     }
 }
 
-// What the parts of a sequence tell of it.
-#[tactic(auto, using(crate::proofs::ReadOwners::parts_of_sequences))]
-fn tell_parts(role: Role, term: &Term, parts: &[Term])
+// A condition uses what its branches use. The functions after this one say the same of other forms.
+#[tactic(auto, using(crate::proofs::ReadOwners::parts_of_statements))]
+fn tell_if(role: Role, term: &Term, cond: &Expr, yes: &Term, other: &Term, limit: usize)
+    requires form { term.now.form ≡ Form.If cond.now yes.now other.now }
+    requires below { AreBelow (numbers_of role (statement term.now)) limit }
+    ensures numbers { numbers_of role (statement term.now) ≡ numbers_of role (statement yes.now) ++ numbers_of role (statement other.now) }
+    ensures below { AreBelow (numbers_of role (statement yes.now)) limit }
+{}
+
+#[tactic(auto, using(crate::proofs::ReadOwners::parts_of_statements))]
+fn tell_present(role: Role, term: &Term, test: &SigTest, yes: &Term, other: &Term, limit: usize)
+    requires form { term.now.form ≡ Form.Present test.now yes.now other.now }
+    requires below { AreBelow (numbers_of role (statement term.now)) limit }
+    ensures numbers { numbers_of role (statement term.now) ≡ numbers_of role (statement yes.now) ++ numbers_of role (statement other.now) }
+    ensures below { AreBelow (numbers_of role (statement yes.now)) limit }
+{}
+
+#[tactic(auto, using(crate::proofs::ReadOwners::parts_of_statements))]
+fn tell_sequence(role: Role, term: &Term, parts: &[Term])
     requires { term.now.form ≡ Form.Seq parts.now }
-    ensures { numbers_of role (plain term.now) ≡ numbers_of_all role (map plain parts.now) }
+    ensures { numbers_of role (statement term.now) ≡ numbers_of_all role (map statement parts.now) }
+{}
+
+#[tactic(auto, using(crate::proofs::ReadOwners::parts_of_statements))]
+fn tell_parallel(role: Role, term: &Term, parts: &[Term])
+    requires { term.now.form ≡ Form.Par parts.now }
+    ensures { numbers_of role (statement term.now) ≡ numbers_of_all role (map statement parts.now) }
+{}
+
+// What the numbers of two statements tell of the second.
+#[tactic(auto, using(crate::proofs::ReadOwners::second_parts))]
+fn tell_second(role: Role, left: &Term, right: &Term, limit: usize)
+    requires { AreBelow (numbers_of role (statement left.now) ++ numbers_of role (statement right.now)) limit }
+    ensures { AreBelow (numbers_of role (statement right.now)) limit }
 {}
 
 /// Marks all that the statement uses in this role as the domain's, and answers whether none of it is
 /// another domain's.
 #[cycle(mark)]
+#[tactic(auto, using(crate::proofs::ReadOwners::marked_parts))]
 fn mark(role: Role, domain: u32, term: &Term, owners: &mut Vec<Option<u32>>) -> bool
-    requires { AreBelow (numbers_of role (plain term.now)) (length owners.old.items) }
-    ensures { MatchBool result (Marked domain owners.old.items owners.new.items (numbers_of role (plain term.now))) (IsContested domain owners.old.items (numbers_of role (plain term.now))) }
+    requires { AreBelow (numbers_of role (statement term.now)) (length owners.old.items) }
+    ensures { MatchBool result (Marked domain owners.old.items owners.new.items (numbers_of role (statement term.now))) (IsContested domain owners.old.items (numbers_of role (statement term.now))) }
 {
     match &term.form {
+        Form::Nothing | Form::Pause | Form::Assign { .. } | Form::Exit(_) => true,
         Form::Emit { signal, .. } => claim_as(role, Role::Emitter, domain, *signal, owners),
         Form::Send { channel, .. } => claim_as(role, Role::Sender, domain, *channel, owners),
         Form::Receive { channel } => claim_as(role, Role::Receiver, domain, *channel, owners),
-        Form::Loop(body) => mark(role, domain, body.get(), owners),
+        Form::If { cond, yes, other } => {
+            let (yes, other) = (yes.get(), other.get());
+            tell_if(role, term, cond, yes, other, owners.len());
+            if !mark(role, domain, yes, owners) {
+                return false;
+            }
+            tell_second(role, yes, other, owners.len());
+            mark(role, domain, other, owners)
+        }
+        Form::Present { test, yes, other } => {
+            let (yes, other) = (yes.get(), other.get());
+            tell_present(role, term, test, yes, other, owners.len());
+            if !mark(role, domain, yes, owners) {
+                return false;
+            }
+            tell_second(role, yes, other, owners.len());
+            mark(role, domain, other, owners)
+        }
         Form::Seq(parts) => {
             let parts = parts.as_slice();
-            tell_parts(role, term, parts);
+            tell_sequence(role, term, parts);
             mark_all(role, domain, parts, owners)
         }
-        _ => true,
+        Form::Loop(body) => mark(role, domain, body.get(), owners),
+        Form::Par(parts) => {
+            let parts = parts.as_slice();
+            tell_parallel(role, term, parts);
+            mark_all(role, domain, parts, owners)
+        }
+        Form::Trap(body) => mark(role, domain, body.get(), owners),
+        Form::Abort { body, .. } => mark(role, domain, body.get(), owners),
+        Form::Suspend { body, .. } => mark(role, domain, body.get(), owners),
+        Form::Local { signal: _, body } => mark(role, domain, body.get(), owners),
     }
 }
 
@@ -91,16 +148,16 @@ fn mark(role: Role, domain: u32, term: &Term, owners: &mut Vec<Option<u32>>) -> 
 fn tell_first(role: Role, parts: &[Term], i: usize, part: &Term, limit: usize)
     requires within { i < length parts.now }
     requires part { part.now ≡ slice_index_or parts.now i part.now }
-    requires below { AreBelow (numbers_of_all role (map plain (drop i parts.now))) limit }
-    ensures split { map plain (drop i parts.now) ≡ plain part.now ∷ map plain (drop (i + 1) parts.now) }
-    ensures below { AreBelow (numbers_of role (plain part.now)) limit }
+    requires below { AreBelow (numbers_of_all role (map statement (drop i parts.now))) limit }
+    ensures split { map statement (drop i parts.now) ≡ statement part.now ∷ map statement (drop (i + 1) parts.now) }
+    ensures below { AreBelow (numbers_of role (statement part.now)) limit }
 {}
 
 #[cycle(mark)]
 #[tactic(auto, using(crate::proofs::ReadOwners::mark_steps))]
 fn mark_all(role: Role, domain: u32, parts: &[Term], owners: &mut Vec<Option<u32>>) -> bool
-    requires { AreBelow (numbers_of_all role (map plain parts.now)) (length owners.old.items) }
-    ensures { MatchBool result (Marked domain owners.old.items owners.new.items (numbers_of_all role (map plain parts.now))) (IsContested domain owners.old.items (numbers_of_all role (map plain parts.now))) }
+    requires { AreBelow (numbers_of_all role (map statement parts.now)) (length owners.old.items) }
+    ensures { MatchBool result (Marked domain owners.old.items owners.new.items (numbers_of_all role (map statement parts.now))) (IsContested domain owners.old.items (numbers_of_all role (map statement parts.now))) }
 {
     for i in 0..parts.len() {
         let part = &parts[i];
@@ -153,7 +210,7 @@ pub fn owners(
 ) -> Result<Option<Vec<Option<u32>>>, NoMemory>
     requires built { AreBuilt (names_of names.now) domains.now }
     requires few { length domains.now ≤ 16 }
-    ensures { IfOk result (λ o. MatchOption o (IsShared role (map plain domains.now)) (λ v. OwnersFound role (names_of names.now) (map plain domains.now) v.items)) }
+    ensures { IfOk result (λ o. MatchOption o (IsShared role (map statement domains.now)) (λ v. OwnersFound role (names_of names.now) (map statement domains.now) v.items)) }
 {
     let count = limit(role, names);
     let mut owners = unowned(alloc, count)?;

@@ -1,4 +1,4 @@
-ghost use Rattle.std.specs.Prelude.{◌≡◌, ◌≤◌, IfOk, MatchOption, length};
+ghost use Rattle.std.specs.Prelude.{◌≤◌, IfOk, MatchOption, length};
 ghost use Rattle.sj_main.specs.definitions.Grammar.{SignalPort, ChannelPort};
 ghost use Rattle.sj_main.specs.ReadingTokens.{tokens_of};
 ghost use Rattle.sj_main.specs.ReadingNames.{names_of, port_of};

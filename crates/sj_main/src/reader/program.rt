@@ -1,4 +1,4 @@
-ghost use Rattle.std.specs.Prelude.{◌≡◌, ◌≤◌, IfOk, MatchOption, length};
+ghost use Rattle.std.specs.Prelude.{◌≤◌, IfOk, MatchOption, length};
 ghost use Rattle.sj_main.specs.ReadingTokens.{tokens_of};
 ghost use Rattle.sj_main.specs.ReadingPrograms.{StartsProgram, StartsNoProgram, PortsAreNamed, IsReadFrom, NoProgram};
 

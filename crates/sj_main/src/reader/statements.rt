@@ -1,6 +1,6 @@
 ghost use Rattle.std.specs.Prelude.{◌≡◌, ◌+◌, ◌≤◌, ◌<◌, ◌∷◌, [], true, IfOk, IfSome, MatchOption};
 ghost use Rattle.sj_main.specs.BuiltTerms.{is_int};
-ghost use Rattle.sj_main.specs.declared.token.Token.TheVariants.{Reserved, Sign, Name};
+ghost use Rattle.sj_main.specs.declared.token.Token.TheVariants.{Sign};
 ghost use Rattle.sj_main.specs.declared.token.Mark.TheVariants as mark;
 ghost use Rattle.sj_main.specs.definitions.Accepted.{most_open};
 ghost use Rattle.sj_main.specs.ReadingTokens.{tokens_of, offset_of};

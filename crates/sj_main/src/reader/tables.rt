@@ -1,6 +1,6 @@
-ghost use Rattle.std.specs.Prelude.{◌≡◌, ◌≢◌, ◌<◌, ◌≤◌, ◌+◌, ◌∷◌, [], Some, IfOk, MatchOption, MatchBool, length, map, unwrap_or};
+ghost use Rattle.std.specs.Prelude.{◌≡◌, ◌≢◌, ◌<◌, ◌≤◌, ◌+◌, Some, IfOk, MatchOption, MatchBool, length, map, unwrap_or};
 ghost use Rattle.sj_main.specs.BuiltTerms.{AreBuilt};
-ghost use Rattle.domain_core.specs.BuiltForms.{plain};
+ghost use Rattle.kernel_terms.specs.Statements.{statement};
 ghost use Rattle.sj_main.specs.definitions.Programs.{signals_from};
 ghost use Rattle.sj_main.specs.ReadingNames.{names_of, set_names};
 ghost use Rattle.sj_main.specs.ReadingOwners.{owner_in, count_of, AreFewEach, IsFull, IsPair, AreChannels, IsUnpaired, AreTablesOf, BreaksOwners};
@@ -131,7 +131,7 @@ pub fn make_tables(
 ) -> Result<Option<Tables>, NoMemory>
     requires built { AreBuilt (names_of names.now) domains.now }
     requires few { length domains.now ≤ 16 }
-    ensures { IfOk result (λ o. MatchOption o (BreaksOwners (names_of names.now) (map plain domains.now)) (λ t. AreTablesOf (names_of names.now) (map plain domains.now) t)) }
+    ensures { IfOk result (λ o. MatchOption o (BreaksOwners (names_of names.now) (map statement domains.now)) (λ t. AreTablesOf (names_of names.now) (map statement domains.now) t)) }
 {
     let Some(emitters) = owners(alloc, Role::Emitter, names, domains)? else {
         return Ok(None);

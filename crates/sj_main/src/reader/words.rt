@@ -1,8 +1,8 @@
-ghost use Rattle.std.specs.Prelude.{◌≡◌, ◌+◌, ◌≤◌, ◌<◌, IfOk, IfSome, MatchOption, length, Some, None};
+ghost use Rattle.std.specs.Prelude.{◌≡◌, ◌≤◌, ◌<◌, IfOk, length, Some, None};
 ghost use Rattle.std.specs.List.{prefix_len, list_any, list_all};
 ghost use Rattle.std.specs.Str.{bytes_eq};
 ghost use Rattle.java_values.specs.Names.{is_word_byte, is_letter, is_word, is_reserved, is_name};
-ghost use Rattle.sj_main.specs.definitions.Tokens.{is_white, skip_white, word_token, sign_token, next_token};
+ghost use Rattle.sj_main.specs.definitions.Tokens.{is_white, word_token, sign_token};
 ghost use Rattle.sj_main.specs.ReadingTokens.{word_of};
 
 use crate::token::{Mark, Token, Word};

@@ -1,4 +1,4 @@
-use Rattle.sj_main.specs.Words.{word_list}
+use Rattle.sj_main.specs.definitions.Commands.{word_list}
 use Rattle.sj_main.proofs.ServeLemmas.{order_begins, order_weighs, usage_begins, want_begins}
 use Rattle.sj_main.proofs.serve.serve_plain.Goals as goal
 
