@@ -1,10 +1,11 @@
 -- Legal ticks of small domains, and those that no domain makes.
-use Rattle.std.proofs.Common.{◌≡◌, ℕ, zero, suc, ℤ, pos, Bool, true, false, cond, List, [], ◌∷◌, Option, None, refl, sym, ap, ◌∙◌, arith}
+use Rattle.std.proofs.Common.{◌≡◌, ◌<◌, ℕ, zero, suc, ℤ, pos, Bool, true, false, cond, List, [], ◌∷◌, Option, None, refl, sym, ap, ◌∙◌, arith}
 use Rattle.std.proofs.lemmas.Bool.Decides.{nat_tests}
 use Rattle.std.specs.Int.{int_wrap}
 use Rattle.kernel_terms.specs.declared.tables.Tables.{Tables}
 use Rattle.kernel_terms.specs.TableEntries.{signal_at, is_interface_of}
 use Rattle.kernel_terms.specs.Marks.{Going, Ended, is_over}
+use Rattle.kernel_terms.specs.Limits.{most_traps}
 use Rattle.kernel_terms.specs.Statements.{Stmt, Nothing, Exit}
 use Rattle.kernel_rules.specs.definitions.Signals.{Env, Status, is_emitted, shown}
 use Rattle.kernel_rules.specs.definitions.TickRule.{Tick, exit_code, Chosen, ends_with}
@@ -97,8 +98,8 @@ exit_is_no_end e h = grind (arith, nat_tests)
 
 pub exit_refused :
     (tables : Tables) (inputs : Inputs) (d e : ℕ) (row : List (Option ℤ)) (new : DomainState)
-    → IsLegalTick tables inputs d (at_start (Exit e)) row new → ⊥
-exit_refused tables inputs d e row new h =
+    → e < most_traps → IsLegalTick tables inputs d (at_start (Exit e)) row new → ⊥
+exit_refused tables inputs d e row new below h =
     let a : Tick = h.tick in exit_is_no_end e (sym (ap (λ (z : Tick). is_tick_code z.code) h.ticks) ∙ h.code)
 
 pub counts :

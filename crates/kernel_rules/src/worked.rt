@@ -38,9 +38,9 @@ pub use registers::{
     registers_stand_for_statement, registers_stand_in_order,
 };
 pub use variables::{
-    branches_read_old_variables, endless_turn_has_no_tick, if_takes_one_branch, loop_begins_anew,
-    parallel_joins_variables, present_takes_one_branch, sequence_hands_on_variables,
-    sequence_waits_for_its_first_part, statement_assigns_what_it_names,
-    statement_mentions_what_it_names,
+    body_hands_on_variables, branches_read_old_variables, endless_turn_has_no_tick,
+    if_takes_one_branch, loop_begins_anew, parallel_joins_variables, present_takes_one_branch,
+    sequence_hands_on_variables, sequence_waits_for_its_first_part,
+    statement_assigns_what_it_names, statement_mentions_what_it_names,
 };
-pub use ways::{shape_tells_ends, shape_tells_exits};
+pub use ways::{loops_of_each_form_wait, shape_tells_ends, shape_tells_exits};

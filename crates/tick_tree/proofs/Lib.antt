@@ -10,3 +10,4 @@ pub mod Counting
 pub mod Signals
 pub mod RowLemmas
 pub mod TermRows
+mod Ranks

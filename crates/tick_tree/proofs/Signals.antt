@@ -7,7 +7,7 @@ use Rattle.kernel_terms.specs.Systems.{tables_of, domains_of}
 use Rattle.kernel_terms.specs.Statements.{statement}
 use Rattle.kernel_terms.specs.TableEntries.{no_signal, signal_at, is_local, is_interface_of, numbers_where}
 use Rattle.kernel_terms.specs.WellFormed.{has_names, is_within_limits, has_entries, has_parts, fit_statements, declares_each_once, interface_comes_first, is_signal_entry, is_channel_entry, is_variable_entry}
-use Rattle.tick_tree.specs.definitions.Precedence.{interface_signals}
+use Rattle.tick_tree.specs.definitions.Precedence.{interface_count}
 use Rattle.tick_tree.proofs.Lists.{and_left, and_right}
 
 abbrev is_local_entry : SignalInfo → Bool
@@ -40,7 +40,7 @@ not_local : (b : Bool) → cond b false true ≡ true → b ≡ false
 not_local true h = cc
 not_local false h = refl
 
-pub signals_below : (s : System) (d k : ℕ) → is_interface_of d (signal_at (tables_of s) k) ≡ true → k < interface_signals (tables_of s)
+pub signals_below : (s : System) (d k : ℕ) → is_interface_of d (signal_at (tables_of s) k) ≡ true → k < interface_count (tables_of s)
 signals_below s d k h =
     let t = tables_of s in
     let n = length (domains_of s) in

@@ -1,20 +1,24 @@
 -- Small statements and their trees.
 use Rattle.std.specs.Prelude.{ℕ, pos, true, false, List, [], ◌∷◌, get_or, Some, None}
 use Rattle.java_values.specs.declared.kind.Kind.TheVariants as kind
+use Rattle.java_values.specs.declared.op.Op1.TheVariants as op1
 use Rattle.java_values.specs.declared.op.Op2.TheVariants as op2
 use Rattle.kernel_terms.specs.declared.sig_test.SigTest.TheVariants as sig_test
 use Rattle.kernel_terms.specs.declared.term.Term.{Term}
 use Rattle.kernel_terms.specs.declared.term.Form.{Form}
 use Rattle.kernel_terms.specs.declared.term.Form.TheViews as form
 use Rattle.kernel_terms.specs.declared.term.Form.TheVariants as plain
-use Rattle.kernel_terms.specs.Expressions.{Expression, Literal, Variable, SignalValue, Binary, Test, IsPresent, Not}
+use Rattle.kernel_terms.specs.Expressions.{Expression, Literal, Variable, SignalValue, ChannelValue, Unary, Binary, Cast, Test, IsPresent, Not}
 use Rattle.kernel_terms.specs.Expressions as tests
-use Rattle.kernel_terms.specs.Statements.{Stmt, Nothing, Pause, Emit, If, Present, Loop, Par, Trap, Abort, Suspend, Local, Send, sequence}
+use Rattle.kernel_terms.specs.Statements.{Stmt, Nothing, Pause, Emit, Assign, If, Present, Loop, Par, Trap, Abort, Suspend, Local, Send, sequence}
 use Rattle.kernel_terms.specs.Statements as stmt
 use Rattle.tick_tree.specs.definitions.Trees.{Tree, One, Seq, Alt, Both}
 
 abbrev pub number : ℕ → Expression
 number n = Literal kind.Int (pos n)
+
+abbrev pub plus : Expression → Expression → Expression
+plus e f = Binary kind.Int op2.Add e f
 
 -- `signal A; present(A){emit A;}`, where A has the number 0
 abbrev pub causes_itself : Stmt
@@ -143,3 +147,38 @@ beside_term_started = Both (emission_leaf 0 1 0 [] 0) (Seq (test_leaf 1 14 0) (A
 
 abbrev pub beside_term_resumed : Tree
 beside_term_resumed = bare_leaf 0 25
+
+-- `x = 1; pause; x = #S; pause; emit S(x + 4);`, where S has the number 0
+abbrev pub reads_before_emission : Stmt
+reads_before_emission =
+    sequence (Assign 0 (number 1) ∷ Pause ∷ Assign 0 (SignalValue kind.Int 0) ∷ Pause ∷ Emit 0 (Some (plus (Variable kind.Int 0) (number 4))) ∷ [])
+
+-- `if(b){x = #S;}else{emit S(x + 2);} pause;`
+abbrev pub reads_or_emits : Stmt
+reads_or_emits =
+    sequence (If (Variable kind.Boolean 1) (Assign 0 (SignalValue kind.Int 0)) (Emit 0 (Some (plus (Variable kind.Int 0) (number 2)))) ∷ Pause ∷ [])
+
+-- `present(A){present(B){emit C;}}else{present(C){emit B;}}`, where A, B and C have the numbers 0 to 2
+abbrev pub choices_see_each_other : Stmt
+choices_see_each_other = Present (IsPresent 0) (Present (IsPresent 1) (Emit 2 None) Nothing) (Present (IsPresent 2) (Emit 1 None) Nothing)
+
+-- `-#S + (long) (#R + #C)` and `!(A && !B) || D`, where the signals have the numbers 0 to 2 and 5 and the channel 4
+abbrev pub reading_all : Expression
+reading_all =
+    Binary kind.Long op2.Add (Unary kind.Int op1.Minus (SignalValue kind.Int 0)) (Cast kind.Long (plus (SignalValue kind.Int 1) (ChannelValue kind.Int 4)))
+
+abbrev pub testing_all : Test
+testing_all = tests.Either (Not (tests.Both (IsPresent 0) (Not (IsPresent 2)))) (IsPresent 5)
+
+abbrev pub reading_leaf : (writes : List ℕ) → Tree
+reading_leaf writes = One (record { number = 0; at = 0; nodes = 7; reads = 0 ∷ 1 ∷ []; writes = writes })
+
+abbrev pub testing_leaf : Tree
+testing_leaf = One (record { number = 0; at = 0; nodes = 7; reads = 0 ∷ 2 ∷ 5 ∷ []; writes = [] })
+
+-- `while(true){pause;}`, and the same before `emit A;` and in another loop
+abbrev pub endless : Stmt
+endless = Loop Pause
+
+abbrev pub endless_resumed : Tree
+endless_resumed = Seq (bare_leaf 0 0) (bare_leaf 1 0)

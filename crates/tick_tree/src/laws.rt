@@ -13,7 +13,7 @@ ghost use Rattle.kernel_terms.specs.WellFormed.{Scope, fits_statement, has_parts
 ghost use Rattle.tick_tree.specs.definitions.Leaves.{own_leaves, places_of};
 ghost use Rattle.tick_tree.specs.definitions.Shapes.{Shape, starting_shape, resuming_shape};
 ghost use Rattle.tick_tree.specs.definitions.Trees.{leaves_in, copies_in, tree_of};
-ghost use Rattle.tick_tree.specs.definitions.Precedence.{interface_signals};
+ghost use Rattle.tick_tree.specs.definitions.Precedence.{interface_count};
 ghost use Rattle.tick_tree.specs.definitions.Weight.{weight_of_shape, weight_of_some, nowhere};
 ghost use Rattle.tick_tree.specs.Measures.{starting_weight, resuming_weight};
 ghost use Rattle.tick_tree.specs.definitions.Exits.{exits_fit};
@@ -73,5 +73,5 @@ pub fn leaves_have_places()
 
 /// No interface signal of a system has the number of a copy of a local signal.
 pub fn interface_signals_come_before_copies()
-    ensures { (s : System) (d k : ℕ) → is_interface_of d (signal_at (tables_of s) k) ≡ true → k < interface_signals (tables_of s) }
+    ensures { (s : System) (d k : ℕ) → is_interface_of d (signal_at (tables_of s) k) ≡ true → k < interface_count (tables_of s) }
 {}

@@ -1,6 +1,6 @@
 // Whether statements may end in their ticks, and what their trees weigh, in one walk.
 
-ghost use Rattle.std.specs.Prelude.{◌≡◌, ◌+◌, ◌<◌, ℕ, Bool, true, cond, List, Option, map};
+ghost use Rattle.std.specs.Prelude.{◌≡◌, ◌+◌, ◌*◌, ◌%◌, ◌^◌, ◌<◌, ℕ, Bool, true, cond, List, Option, map};
 ghost use Rattle.std.specs.List.{list_all};
 ghost use Rattle.kernel_terms.specs.Expressions.{Expression, Test};
 ghost use Rattle.kernel_terms.specs.Limits.{most_traps};
@@ -45,26 +45,23 @@ const ENDS: Exits = Exits {
     traps: 0,
 };
 
-/// Whether the statement may end in its starting tick.
+/// Whether the statement may end in its starting tick. Its exits are to depths below 64, as those of a system are.
 pub fn ends0(term: &Term) -> bool
-    requires fits { exits_fit (statement term.now) ≡ true }
-    ensures { result ≡ ends0 (statement term.now) }
+    ensures { exits_fit (statement term.now) ≡ true → result ≡ ends0 (statement term.now) }
 {
     measured(term).starting.ends
 }
 
-/// Whether the statement may end in a later tick.
+/// Whether the statement may end in a later tick. Its exits are to depths below 64.
 pub fn ends1(term: &Term) -> bool
-    requires fits { exits_fit (statement term.now) ≡ true }
-    ensures { result ≡ ends1 (statement term.now) }
+    ensures { exits_fit (statement term.now) ≡ true → result ≡ ends1 (statement term.now) }
 {
     measured(term).resuming.ends
 }
 
-/// The weight of a domain's statement, up to 2^32.
+/// The weight of a domain's statement, up to 2^32. Its exits are to depths below 64.
 pub fn weight(term: &Term) -> u64
-    requires fits { exits_fit (statement term.now) ≡ true }
-    ensures { result ≡ capped (weight_of (statement term.now)) }
+    ensures { exits_fit (statement term.now) ≡ true → result ≡ capped (weight_of (statement term.now)) }
 {
     let found = measured(term);
     sum(found.starting_weight, found.resuming_weight)
@@ -72,8 +69,7 @@ pub fn weight(term: &Term) -> u64
 
 #[cycle(measure)]
 fn measured(term: &Term) -> Measure
-    requires fits { exits_fit (statement term.now) ≡ true }
-    ensures { IsMeasure (statement term.now) result }
+    ensures { exits_fit (statement term.now) ≡ true → IsMeasure (statement term.now) result }
 {
     match &term.form {
         Form::Nothing => at_once(0),
@@ -118,8 +114,7 @@ fn measured(term: &Term) -> Measure
 
 #[cycle(measure)]
 fn all_in_turn(parts: &[Term]) -> Measure
-    requires fit { list_all exits_fit (map statement parts.now) ≡ true }
-    ensures { IsMeasure (sequence (map statement parts.now)) result }
+    ensures { list_all exits_fit (map statement parts.now) ≡ true → IsMeasure (sequence (map statement parts.now)) result }
 {
     let mut rest = None;
     for i in (0..parts.len()).rev() {
@@ -135,8 +130,7 @@ fn all_in_turn(parts: &[Term]) -> Measure
 
 #[cycle(measure)]
 fn all_beside(parts: &[Term]) -> Measure
-    requires fit { list_all exits_fit (map statement parts.now) ≡ true }
-    ensures { IsMeasure (parallel (map statement parts.now)) result }
+    ensures { list_all exits_fit (map statement parts.now) ≡ true → IsMeasure (parallel (map statement parts.now)) result }
 {
     let mut rest = None;
     for i in (0..parts.len()).rev() {
@@ -209,14 +203,20 @@ fn waits(nodes: u64) -> Measure
     }
 }
 
+// The bit of a depth, and none past the last.
+fn bit_of(depth: u32) -> u64
+    ensures { depth < most_traps → result ≡ (1 * 2 ^ depth) % 2 ^ 64 }
+{
+    if depth < 64 { 1u64 << depth } else { 0 }
+}
+
 fn exits_to(depth: u32) -> Measure
-    requires fits { depth < most_traps }
-    ensures { IsMeasure (Exit depth) result }
+    ensures { depth < most_traps → IsMeasure (Exit depth) result }
 {
     Measure {
         starting: Exits {
             ends: false,
-            traps: 1u64 << depth,
+            traps: bit_of(depth),
         },
         resuming: NEVER,
         resumes: false,

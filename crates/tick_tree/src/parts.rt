@@ -12,56 +12,50 @@ use kernel_terms::{Expr, Form, SigTest, Term};
 #[tactic(auto, using(crate::proofs::Lists::parts_of_terms))]
 pub fn tell_if(term: &Term, cond: &Expr, yes: &Term, other: &Term)
     requires form { term.now.form ≡ Form.If cond.now yes.now other.now }
-    requires fits { exits_fit (statement term.now) ≡ true }
     ensures statement { statement term.now ≡ If (expression cond.now) (statement yes.now) (statement other.now) }
-    ensures left { exits_fit (statement yes.now) ≡ true }
-    ensures right { exits_fit (statement other.now) ≡ true }
+    ensures left { exits_fit (statement term.now) ≡ true → exits_fit (statement yes.now) ≡ true }
+    ensures right { exits_fit (statement term.now) ≡ true → exits_fit (statement other.now) ≡ true }
 {}
 
 /// The branches of a test.
 #[tactic(auto, using(crate::proofs::Lists::parts_of_terms))]
 pub fn tell_present(term: &Term, looked_at: &SigTest, yes: &Term, other: &Term)
     requires form { term.now.form ≡ Form.Present looked_at.now yes.now other.now }
-    requires fits { exits_fit (statement term.now) ≡ true }
     ensures statement { statement term.now ≡ Present (test looked_at.now) (statement yes.now) (statement other.now) }
-    ensures left { exits_fit (statement yes.now) ≡ true }
-    ensures right { exits_fit (statement other.now) ≡ true }
+    ensures left { exits_fit (statement term.now) ≡ true → exits_fit (statement yes.now) ≡ true }
+    ensures right { exits_fit (statement term.now) ≡ true → exits_fit (statement other.now) ≡ true }
 {}
 
 /// The body of an abort.
 #[tactic(auto, using(crate::proofs::Lists::parts_of_terms))]
 pub fn tell_abort(term: &Term, weak: bool, immediate: bool, looked_at: &SigTest, body: &Term)
     requires form { term.now.form ≡ Form.Abort weak immediate looked_at.now body.now }
-    requires fits { exits_fit (statement term.now) ≡ true }
     ensures statement { statement term.now ≡ Abort weak immediate (test looked_at.now) (statement body.now) }
-    ensures fits { exits_fit (statement body.now) ≡ true }
+    ensures fits { exits_fit (statement term.now) ≡ true → exits_fit (statement body.now) ≡ true }
 {}
 
 /// The body of a suspend.
 #[tactic(auto, using(crate::proofs::Lists::parts_of_terms))]
 pub fn tell_suspend(term: &Term, looked_at: &SigTest, body: &Term)
     requires form { term.now.form ≡ Form.Suspend looked_at.now body.now }
-    requires fits { exits_fit (statement term.now) ≡ true }
     ensures statement { statement term.now ≡ Suspend false (test looked_at.now) (statement body.now) }
-    ensures fits { exits_fit (statement body.now) ≡ true }
+    ensures fits { exits_fit (statement term.now) ≡ true → exits_fit (statement body.now) ≡ true }
 {}
 
 /// The parts of a sequence.
 #[tactic(auto, using(crate::proofs::Lists::parts_of_terms))]
 pub fn tell_sequence(term: &Term, parts: &[Term])
     requires form { term.now.form ≡ Form.Seq parts.now }
-    requires fits { exits_fit (statement term.now) ≡ true }
     ensures statement { statement term.now ≡ sequence (map statement parts.now) }
-    ensures fit { list_all exits_fit (map statement parts.now) ≡ true }
+    ensures fit { exits_fit (statement term.now) ≡ true → list_all exits_fit (map statement parts.now) ≡ true }
 {}
 
 /// The parts that stand beside each other.
 #[tactic(auto, using(crate::proofs::Lists::parts_of_terms))]
 pub fn tell_parallel(term: &Term, parts: &[Term])
     requires form { term.now.form ≡ Form.Par parts.now }
-    requires fits { exits_fit (statement term.now) ≡ true }
     ensures statement { statement term.now ≡ parallel (map statement parts.now) }
-    ensures fit { list_all exits_fit (map statement parts.now) ≡ true }
+    ensures fit { exits_fit (statement term.now) ≡ true → list_all exits_fit (map statement parts.now) ≡ true }
 {}
 
 /// The parts from the i-th on.
@@ -69,7 +63,6 @@ pub fn tell_parallel(term: &Term, parts: &[Term])
 pub fn tell_first(parts: &[Term], i: usize, part: &Term)
     requires within { i < length parts.now }
     requires part { part.now ≡ slice_index_or parts.now i part.now }
-    requires fit { list_all exits_fit (map statement parts.now) ≡ true }
     ensures parts { map statement (drop i parts.now) ≡ statement part.now ∷ map statement (drop (i + 1) parts.now) }
-    ensures fits { exits_fit (statement part.now) ≡ true }
+    ensures fits { list_all exits_fit (map statement parts.now) ≡ true → exits_fit (statement part.now) ≡ true }
 {}

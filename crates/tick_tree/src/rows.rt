@@ -1,16 +1,20 @@
 // Trees of small statements, by computation. Their functions do nothing.
 
-ghost use Rattle.std.specs.Prelude.{◌≡◌, ℕ, Option, Some, None};
-ghost use Rattle.kernel_terms.specs.Statements.{Emit};
+ghost use Rattle.std.specs.Prelude.{◌≡◌, ℕ, [], ◌∷◌, Option, Some, None};
+ghost use Rattle.kernel_terms.specs.Statements.{Nothing, Emit, Assign, If, Present, Loop, Send};
+ghost use Rattle.kernel_terms.specs.Statements as stmt;
 ghost use Rattle.tick_tree.specs.definitions.Shapes.{starting_shape, resuming_shape};
-ghost use Rattle.tick_tree.specs.definitions.Trees.{Tree, tree_of, tree_of_some, starting_tree, resuming_tree};
+ghost use Rattle.tick_tree.specs.definitions.Trees.{Tree, Seq, Alt, tree_of, tree_of_some, starting_tree, resuming_tree};
 ghost use Rattle.tick_tree.specs.definitions.Precedence.{IsCausal, IsCausalIf, HasCausalTrees};
-ghost use Rattle.tick_tree.specs.definitions.Weight.{weight_of};
+ghost use Rattle.tick_tree.specs.definitions.Weight.{weight_of, nowhere};
 ghost use Rattle.tick_tree.specs.Measures.{starting_weight, resuming_weight};
 ghost use Rattle.tick_tree.specs.Rows.{causes_itself, sees_own_emission, weakly_sees_own_emission};
 ghost use Rattle.tick_tree.specs.Rows.{two_pauses, places, two_pauses_resumed, new_copies, new_copies_resumed};
 ghost use Rattle.tick_tree.specs.Rows.{joints, joints_started, joints_resumed, sees_beside, see_each_other};
 ghost use Rattle.tick_tree.specs.Rows.{suspends_itself, aborts_itself};
+ghost use Rattle.tick_tree.specs.Rows.{reads_before_emission, reads_or_emits, choices_see_each_other};
+ghost use Rattle.tick_tree.specs.Rows.{reading_all, testing_all, reading_leaf, testing_leaf, bare_leaf};
+ghost use Rattle.tick_tree.specs.Rows.{endless, endless_resumed};
 ghost use Rattle.tick_tree.specs.Rows.{beside_term, beside_term_started, beside_term_resumed};
 ghost use Rattle.tick_tree.specs.Rows.{send_five, pause_if_present, emit_if_less, emit_if_alone};
 
@@ -85,4 +89,32 @@ pub fn weights_of_tests()
     ensures pause { weight_of pause_if_present ≡ 5 }
     ensures less { weight_of emit_if_less ≡ 6 }
     ensures alone { weight_of emit_if_alone ≡ 7 }
+{}
+
+/// An emission doesn't precede what reads its signal in another tick or in another branch of a choice.
+pub fn alternatives_have_no_order()
+    ensures sequence { (at : ℕ → ℕ) → IsCausalIf (tree_of_some 1 (resuming_shape at 0 reads_before_emission)) }
+    ensures choice { (at : ℕ → ℕ) → IsCausal (tree_of 1 (starting_shape at 0 reads_or_emits)) }
+{}
+
+/// It does precede it there where another branch reads the signal, whatever branch is taken.
+pub fn emission_precedes_reads_in_other_branches()
+    ensures { (at : ℕ → ℕ) → IsCausal (tree_of 3 (starting_shape at 0 choices_see_each_other)) → ⊥ }
+{}
+
+/// What leaves with an expression or a test read, and how many nodes they have.
+pub fn leaves_read_their_expressions()
+    ensures emission { tree_of 6 (starting_shape nowhere 0 (Emit 3 (Some reading_all))) ≡ reading_leaf (3 ∷ []) }
+    ensures assignment { tree_of 6 (starting_shape nowhere 0 (Assign 0 reading_all)) ≡ reading_leaf [] }
+    ensures send { tree_of 6 (starting_shape nowhere 0 (Send 0 reading_all)) ≡ reading_leaf [] }
+    ensures condition { tree_of 6 (starting_shape nowhere 0 (If reading_all Nothing Nothing))
+        ≡ Seq (reading_leaf []) (Alt (bare_leaf 1 0) (bare_leaf 2 0)) }
+    ensures test { tree_of 6 (starting_shape nowhere 0 (Present testing_all Nothing Nothing))
+        ≡ Seq testing_leaf (Alt (bare_leaf 1 0) (bare_leaf 2 0)) }
+{}
+
+/// Nothing starts behind what can't end in a later tick.
+pub fn nothing_starts_behind_endless_part()
+    ensures sequence { tree_of_some 1 (resuming_shape nowhere 0 (stmt.Seq endless (Emit 0 None))) ≡ Some endless_resumed }
+    ensures looped { tree_of_some 1 (resuming_shape nowhere 0 (Loop endless)) ≡ Some endless_resumed }
 {}

@@ -1,10 +1,11 @@
 -- Aborts and suspends, which look at the signal 0, and sends and receives in them.
 use Rattle.std.specs.Prelude.{Bool, true, false, List, [], ◌∷◌}
 use Rattle.kernel_terms.specs.Expressions.{IsPresent}
-use Rattle.kernel_terms.specs.Statements.{Stmt, Pause, Seq, Abort, Suspend}
+use Rattle.kernel_terms.specs.Statements.{Stmt, Pause, Assign, Seq, Abort, Suspend}
+use Rattle.kernel_rules.specs.Rows.{int}
 use Rattle.kernel_rules.specs.definitions.Signals.{Emission}
 use Rattle.kernel_rules.specs.ShownTicks.{Shown, statuses, present, pauses_in, ends_in}
-use Rattle.kernel_rules.specs.Worked.Words.{variable, emit, emit_value, assign}
+use Rattle.kernel_rules.specs.Worked.Words.{variable, emit, emit_value, assign, plus}
 
 -- a tick with the signal 0
 abbrev pub pauses_with : List Emission → Shown
@@ -27,7 +28,7 @@ suspended = Seq (Suspend false (IsPresent 0) (Seq (emit 1) (Seq Pause (Seq (emit
 
 -- while the test holds, nothing is assigned: suspend(A){pause; x = x + 1; emit X(x);}
 abbrev pub suspended_assignment : Stmt
-suspended_assignment = Suspend false (IsPresent 0) (Seq Pause (Seq (assign 0 1) (emit_value 1 (variable 0))))
+suspended_assignment = Suspend false (IsPresent 0) (Seq Pause (Seq (Assign 0 (plus (variable 0) (int 1))) (emit_value 1 (variable 0))))
 
 -- abort(A){send C(5); emit X;}, of which the send waits, and of which it has completed
 abbrev pub aborted_send : (weak : Bool) → Stmt → Stmt

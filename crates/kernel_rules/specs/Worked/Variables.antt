@@ -36,9 +36,13 @@ asked = Present (IsPresent 2) (Seq (emit 0) (Seq Pause (emit 0))) (emit 1)
 abbrev pub counted : Stmt
 counted = Loop (Seq (Assign 0 (plus (variable 0) (int 1))) (Seq (emit_value 0 (variable 0)) (Seq Pause (emit_value 1 (variable 0)))))
 
+-- p emit B(x);
+abbrev pub then_shown : Stmt → Stmt
+then_shown p = Seq p (emit_value 1 (variable 0))
+
 -- {p || q} emit B(x);
 abbrev pub beside_then_shown : Stmt → Stmt → Stmt
-beside_then_shown p q = Seq (Par p q) (emit_value 1 (variable 0))
+beside_then_shown p q = then_shown (Par p q)
 
 -- x = n; pause;
 abbrev pub assigns_and_pauses : ℕ → Stmt

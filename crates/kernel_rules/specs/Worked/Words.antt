@@ -4,7 +4,7 @@ use Rattle.java_values.specs.declared.kind.Kind.TheVariants as kind
 use Rattle.java_values.specs.declared.op.Op2.TheVariants as op
 use Rattle.kernel_terms.specs.declared.tables.Tables.{Tables}
 use Rattle.kernel_terms.specs.Expressions.{Expression, Variable, SignalValue, Binary}
-use Rattle.kernel_terms.specs.Statements.{Stmt, Emit, Assign, Seq}
+use Rattle.kernel_terms.specs.Statements.{Stmt, Emit, Assign}
 use Rattle.kernel_rules.specs.Rows.{int, signals_alone}
 
 -- tables without an entry, for statements in which no local signal stands
@@ -29,6 +29,3 @@ emit_value s e = Emit s (Some e)
 
 abbrev pub assign : ℕ → ℕ → Stmt
 assign x n = Assign x (int n)
-
-abbrev pub then : Stmt → Stmt → Stmt → Stmt
-then p q r = Seq p (Seq q r)

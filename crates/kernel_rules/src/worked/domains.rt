@@ -1,9 +1,10 @@
 //! Legal ticks of small domains.
 
-ghost use Rattle.std.specs.Prelude.{◌≡◌, ℕ, suc, ℤ, List, [], ◌∷◌, Option, false};
+ghost use Rattle.std.specs.Prelude.{◌≡◌, ◌<◌, ℕ, suc, ℤ, List, [], ◌∷◌, Option, false};
 ghost use Rattle.kernel_terms.specs.declared.tables.Tables.{Tables};
 ghost use Rattle.kernel_terms.specs.TableEntries.{signal_at, is_interface_of};
 ghost use Rattle.kernel_terms.specs.Marks.{Going, Ended};
+ghost use Rattle.kernel_terms.specs.Limits.{most_traps};
 ghost use Rattle.kernel_terms.specs.Statements.{Nothing, Exit};
 ghost use Rattle.kernel_rules.specs.definitions.LegalTick.{DomainState, Inputs, IsLegalTick};
 ghost use Rattle.kernel_rules.specs.Rows.{Logs, at_start, on, off, with};
@@ -69,7 +70,8 @@ pub fn some_domains_make_no_tick()
         (row : List (Option ℤ)) (new : DomainState) → old.mark ≡ Ended
         → IsLegalTick tables inputs d old row new → ⊥ }
     ensures exits { (tables : Tables) (inputs : Inputs) (d e : ℕ) (row : List (Option ℤ))
-        (new : DomainState) → IsLegalTick tables inputs d (at_start (Exit e)) row new → ⊥ }
+        (new : DomainState) → e < most_traps
+        → IsLegalTick tables inputs d (at_start (Exit e)) row new → ⊥ }
 {}
 
 /// A legal tick adds one to the domain's ticks, and keeps the last value of each channel and the value

@@ -15,6 +15,7 @@ ghost use Rattle.kernel_rules.specs.Worked.SmallDomain.{emits_local, receives, h
 ghost use Rattle.kernel_rules.specs.Worked.SmallDomain.{endless_branch, endless_branch_later};
 ghost use Rattle.kernel_rules.specs.Worked.SmallDomain.{forms_left, both_on, first_on};
 ghost use Rattle.kernel_rules.specs.Worked.Variables.{forms_around, pauses_twice};
+ghost use Rattle.kernel_rules.specs.Worked.Words.{no_tables, emit};
 ghost use Rattle.kernel_rules.specs.Worked.SmallDomain.{both_live, send_met, first_live};
 ghost use Rattle.kernel_rules.specs.Worked.SmallDomain.{loop_pauses, loop_waits, loop_received, loop_second};
 
@@ -83,6 +84,7 @@ pub fn registers_fit()
     ensures pure { FitRegisters domain_tables pure_domain 3 (held (0 ∷ 0 ∷ 0 ∷ 0 ∷ 1 ∷ 0 ∷ [])) }
     ensures endless { FitRegisters domain_tables endless_branch 0 (held (1 ∷ 0 ∷ [])) }
     ensures before_endless { FitRegisters domain_tables endless_branch_later 0 (held (1 ∷ 0 ∷ 0 ∷ [])) }
+    ensures ended_at_once { FitRegisters no_tables (Par (emit 0) Pause) 0 (held (1 ∷ [])) }
 {}
 
 /// Registers don't fit where nothing is live, where both parts of a sequence or both branches of a

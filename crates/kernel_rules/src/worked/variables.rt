@@ -3,14 +3,15 @@
 ghost use Rattle.std.specs.Prelude.{◌≡◌, ℕ, ℤ, true, false, [], ◌∷◌, map};
 ghost use Rattle.std.specs.List.{list_all, list_any};
 ghost use Rattle.kernel_terms.specs.declared.tables.Tables.{Tables};
-ghost use Rattle.kernel_terms.specs.Statements.{Loop, Nothing, Par, Pause, Seq};
+ghost use Rattle.kernel_terms.specs.Expressions.{IsPresent};
+ghost use Rattle.kernel_terms.specs.Statements.{Abort, Exit, Loop, Nothing, Par, Pause, Seq, Suspend, Trap};
 ghost use Rattle.kernel_rules.specs.definitions.Signals.{Env};
 ghost use Rattle.kernel_rules.specs.definitions.TickRule.{Tick, Ticks, writes};
 ghost use Rattle.kernel_rules.specs.ShownTicks.{Shows, pauses, ends, pauses_in, ends_in};
 ghost use Rattle.kernel_rules.specs.ShownTicks.{emitted, statuses, absent, absent_with, present};
 ghost use Rattle.kernel_rules.specs.Worked.Words.{no_tables, variable, emit, emit_value, assign};
 ghost use Rattle.kernel_rules.specs.Worked.Variables.{assigned_twice, summed_up, two_pauses};
-ghost use Rattle.kernel_rules.specs.Worked.Variables.{branched, asked, counted};
+ghost use Rattle.kernel_rules.specs.Worked.Variables.{branched, asked, counted, then_shown};
 ghost use Rattle.kernel_rules.specs.Worked.Variables.{beside_then_shown, assigns_and_pauses};
 ghost use Rattle.kernel_rules.specs.Worked.Variables.{pauses_twice, may_assign};
 ghost use Rattle.kernel_rules.specs.Worked.Variables.{forms_around, forms_alone};
@@ -46,6 +47,27 @@ pub fn present_takes_one_branch()
         ∷ ends (emitted 0 0 ∷ []) ∷ []) }
     ensures second { Shows no_tables asked
         (ends_in (statuses (present ∷ present ∷ absent_with 1 ∷ [])) (emitted 1 0 ∷ []) ∷ ends [] ∷ []) }
+{}
+
+/// A trap, a suspend and an abort hand on what their body has assigned, at once and later.
+pub fn body_hands_on_variables()
+    ensures trap { Shows no_tables (then_shown (Trap (Seq (assign 0 1) (Exit 0))))
+        (ends (emitted 1 1 ∷ []) ∷ []) }
+    ensures trap_later { Shows no_tables (then_shown (Trap (Seq Pause (assign 0 1))))
+        (pauses [] ∷ ends (emitted 1 1 ∷ []) ∷ []) }
+    ensures suspension { Shows no_tables (then_shown (Suspend false (IsPresent 0) (assign 0 1)))
+        (ends (emitted 1 1 ∷ []) ∷ []) }
+    ensures suspension_later { Shows no_tables
+        (then_shown (Suspend false (IsPresent 0) (Seq Pause (assign 0 1))))
+        (pauses [] ∷ ends (emitted 1 1 ∷ []) ∷ []) }
+    ensures strong { Shows no_tables (then_shown (Abort false false (IsPresent 0) (assign 0 1)))
+        (ends (emitted 1 1 ∷ []) ∷ []) }
+    ensures strong_later { Shows no_tables
+        (then_shown (Abort false false (IsPresent 0) (Seq Pause (assign 0 1))))
+        (pauses [] ∷ ends (emitted 1 1 ∷ []) ∷ []) }
+    ensures weak_later { Shows no_tables
+        (then_shown (Abort true false (IsPresent 0) (Seq Pause (assign 0 1))))
+        (pauses [] ∷ ends (emitted 1 1 ∷ []) ∷ []) }
 {}
 
 /// A loop begins its body anew in the tick in which the body ends, from the variables that it left.

@@ -66,10 +66,10 @@ pub record HasCausalTrees (t : Term) (interface : ℕ) : Type 0 where
 
 -- How many interface signals all domains have. Their numbers are below this one, so copies of local signals have
 -- theirs from here on.
-abbrev pub interface_signals : Tables → ℕ
-interface_signals t = length (numbers_where (λ (s : SignalInfo). not (is_local s.sort)) 0 t.signals)
+abbrev pub interface_count : Tables → ℕ
+interface_count t = length (numbers_where (λ (s : SignalInfo). not (is_local s.sort)) 0 t.signals)
 
 -- both trees of the domain of this number are causal
 pub record IsCausalDomain (system : System) (d : ℕ) : Type 0 where
   pub within : d < length (domains_of system)
-  pub trees : (t : Term) → HasCausalTrees (get_or (domains_of system) d t) (interface_signals (tables_of system))
+  pub trees : (t : Term) → HasCausalTrees (get_or (domains_of system) d t) (interface_count (tables_of system))

@@ -27,3 +27,6 @@ returns-clause-endless c = record { is_live = refl; apart = (λ h. (refl, refl),
 
 pub returns-clause-before_endless : goal.returns-clause-before_endless
 returns-clause-before_endless c = record { is_live = refl; apart = (refl, tt, ((λ h. absurd cc), tt, tt)) }
+
+pub returns-clause-ended_at_once : goal.returns-clause-ended_at_once
+returns-clause-ended_at_once c = record { is_live = refl; apart = (λ h. (refl, refl), tt, tt) }

@@ -1,0 +1,24 @@
+use Rattle.std.proofs.Common.{refl}
+use Rattle.kernel_rules.proofs.Showing.{shows}
+use Rattle.kernel_rules.proofs.worked.variables.body_hands_on_variables.Goals as goal
+
+pub returns-clause-trap : goal.returns-clause-trap
+returns-clause-trap c = shows _ _ _ _ _ refl
+
+pub returns-clause-trap_later : goal.returns-clause-trap_later
+returns-clause-trap_later c = shows _ _ _ _ _ refl
+
+pub returns-clause-suspension : goal.returns-clause-suspension
+returns-clause-suspension c = shows _ _ _ _ _ refl
+
+pub returns-clause-suspension_later : goal.returns-clause-suspension_later
+returns-clause-suspension_later c = shows _ _ _ _ _ refl
+
+pub returns-clause-strong : goal.returns-clause-strong
+returns-clause-strong c = shows _ _ _ _ _ refl
+
+pub returns-clause-strong_later : goal.returns-clause-strong_later
+returns-clause-strong_later c = shows _ _ _ _ _ refl
+
+pub returns-clause-weak_later : goal.returns-clause-weak_later
+returns-clause-weak_later c = shows _ _ _ _ _ refl
