@@ -1,3 +1,4 @@
 pub mod Pieces
 pub mod CountLemmas
 pub mod MemoryLemmas
+pub mod Gathering

@@ -16,6 +16,10 @@ IsKnown (x ∷ xs) name = (name ≡ x) ⊎ IsKnown xs name
 abbrev pub CountsApart : List (List ℕ) → List ℕ → List ℕ → Type 0
 CountsApart known name other = (other ≢ name) × (IsKnown known name ⊎ IsKnown known other)
 
+-- no count has moved
+abbrev pub CountsStay : (List ℕ → ℕ) → (List ℕ → ℕ) → Type 0
+CountsStay faults faults' = (other : List ℕ) → faults' other ≡ faults other
+
 -- What calls of one name leave: the told bytes, each count of another name, and no count falls.
 pub record Keeps (known : List (List ℕ)) (told told' : List ℕ → Option (List ℕ)) (faults faults' : List ℕ → ℕ) (name : List ℕ) : Type 0 where
   pub same : (other : List ℕ) → told' other ≡ told other

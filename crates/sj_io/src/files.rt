@@ -1,6 +1,6 @@
-ghost use Rattle.std.specs.Prelude.{◌≡◌, ◌≤◌, List, ℕ, Option, length, IfOk, IfSome, OnErr};
+ghost use Rattle.std.specs.Prelude.{◌≡◌, ◌≤◌, List, ℕ, Option, length, IfOk, IfSome, OnOk, OnErr};
 ghost use Rattle.sj_io.specs.Causes.{Rose};
-ghost use Rattle.sj_io.specs.Files.{ReadsAt, CountsApart};
+ghost use Rattle.sj_io.specs.Files.{ReadsAt, CountsApart, CountsStay};
 
 /// A call of the outside failed. Its count of faults says so too.
 #[derive(Clone, Copy, Debug, PartialEq, Eq)]
@@ -27,5 +27,6 @@ pub trait Files {
         ensures bytes { IfOk result (λ n. IfSome (told self.old name.now) (λ all. ReadsAt all at n buf.new)) }
         ensures later { (other : List ℕ) → faults self.old other ≤ faults self.new other }
         ensures apart { (other : List ℕ) → CountsApart (known self.old) name.now other → faults self.new other ≡ faults self.old other }
-        ensures cause { OnErr result (Rose (faults self.old name.now) (faults self.new name.now)) };
+        ensures cause { OnErr result (Rose (faults self.old name.now) (faults self.new name.now)) }
+        ensures calm { OnOk result (CountsStay (faults self.old) (faults self.new)) };
 }

@@ -1,9 +1,9 @@
 // The real files and standard output. What they hold is not told.
 
-ghost use Rattle.std.specs.Prelude.{◌≡◌, List, ℕ, ◌+◌, ◌-◌, ◌^◌, ◌≤◌, ◌<◌, length, vec_len, min, IfOk, position, string_bytes};
+ghost use Rattle.std.specs.Prelude.{◌≡◌, List, ℕ, ◌+◌, ◌-◌, ◌^◌, ◌≤◌, ◌<◌, length, vec_len, min, IfOk, IfSome, Some, None, position, string_bytes};
 ghost use Rattle.std.specs.Str.{bytes_eq};
 ghost use Rattle.sj_io.specs.Counts.{IsRaised, Raises};
-ghost use Rattle.sj_io.specs.Host.{host_names, host_counts, host_count, host_known, host_faults, print_faults};
+ghost use Rattle.sj_io.specs.Host.{host_names, host_counts, host_count, host_known, host_faults, print_faults, IsCount};
 
 use crate::files::{Failed, Files};
 use crate::sink::Sink;
@@ -104,6 +104,17 @@ impl<'a, R: std::rt::Files> Files for HostFiles<'a, R> {
     }
 }
 
+// How many of so many bytes a call took that answered this, where that is an answer of a sink.
+fn accepted(answered: Option<usize>, len: usize) -> Option<usize>
+    ensures count { IfSome result (λ n. (answered ≡ Some n) × IsCount n len) }
+    ensures none { result ≡ None → IfSome answered (λ n. IsCount n len → ⊥) }
+{
+    match answered {
+        Some(n) if n <= len && (n > 0 || len == 0) => Some(n),
+        _ => None,
+    }
+}
+
 impl<'a, R: Print> HostSink<'a, R> {
     /// Standard output, with no fault counted.
     pub fn new(rt: &'a R) -> HostSink<'a, R>
@@ -129,9 +140,9 @@ impl<'a, R: Print> Sink for HostSink<'a, R> {
     ghost faults = { print_faults };
 
     fn write(&mut self, buf: &[u8]) -> Result<usize, Failed> {
-        match self.rt.write_some(buf) {
-            Ok(n) if n > 0 || buf.is_empty() => Ok(n),
-            _ => Err(self.failure()),
+        match accepted(self.rt.write_some(buf).ok(), buf.len()) {
+            Some(n) => Ok(n),
+            None => Err(self.failure()),
         }
     }
 }

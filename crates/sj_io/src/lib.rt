@@ -3,12 +3,14 @@
 #![tactic(auto)]
 
 mod files;
+mod gathered;
 mod host;
 mod memory;
 mod sink;
 mod whole;
 
 pub use files::{Failed, Files};
+pub use gathered::Gathered;
 pub use host::{HostFiles, HostName, HostSink};
 pub use memory::{MemFile, MemFiles, MemSink};
 pub use sink::Sink;

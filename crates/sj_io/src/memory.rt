@@ -111,9 +111,9 @@ impl MemFiles {
 }
 
 impl Files for MemFiles {
-    ghost use Rattle.std.specs.Prelude.{◌≡◌, List, ℕ, ◌-◌, ◌≤◌, length, min, IfOk, IfSome, OnErr, is_err};
+    ghost use Rattle.std.specs.Prelude.{◌≡◌, List, ℕ, ◌-◌, ◌≤◌, length, min, IfOk, IfSome, OnOk, OnErr, is_err};
     ghost use Rattle.sj_io.specs.Causes.{Rose};
-    ghost use Rattle.sj_io.specs.Files.{ReadsAt, CountsApart};
+    ghost use Rattle.sj_io.specs.Files.{ReadsAt, CountsApart, CountsStay};
     ghost use Rattle.sj_io.specs.Memory.{mem_known, mem_told, mem_faults, mem_piece, mem_fails, CallsOn};
 
     ghost known = { mem_known };
@@ -130,6 +130,7 @@ impl Files for MemFiles {
         ensures later { (other : List ℕ) → mem_faults self.old other ≤ mem_faults self.new other }
         ensures apart { (other : List ℕ) → CountsApart (mem_known self.old) name.now other → mem_faults self.new other ≡ mem_faults self.old other }
         ensures cause { OnErr result (Rose (mem_faults self.old name.now) (mem_faults self.new name.now)) }
+        ensures calm { OnOk result (CountsStay (mem_faults self.old) (mem_faults self.new)) }
 
         // It fails exactly where it is told to, and else gives as much as it may.
         ensures exact { is_err result ≡ mem_fails self.old name.now }

@@ -2,7 +2,7 @@
 
 ghost use Rattle.std.specs.Prelude.{◌≡◌, ◌+◌, ◌≤◌, ◌<◌, length, take, IfOk, IfSome, OnOk, OnErr, IsErrOf, vec_len};
 ghost use Rattle.sj_io.specs.Causes.{Rose};
-ghost use Rattle.sj_io.specs.Files.{Keeps};
+ghost use Rattle.sj_io.specs.Files.{CountsStay, Keeps};
 ghost use Rattle.sj_io.specs.Sinks.{TakesMore, TakesFront};
 
 use crate::files::Files;
@@ -40,6 +40,7 @@ fn read_piece<F: Files>(
 ) -> Result<usize, ReadError>
     ensures known { F.known files.new ≡ F.known files.old }
     ensures cause { IsErrOf result ReadError.Fault → Rose (F.faults files.old name.now) (F.faults files.new name.now) }
+    ensures calm { (IsErrOf result ReadError.Fault → ⊥) → CountsStay (F.faults files.old) (F.faults files.new) }
     ensures keeps { Keeps (F.known files.old) (F.told files.old) (F.told files.new) (F.faults files.old) (F.faults files.new) name.now }
     ensures not_big { IsErrOf result ReadError.TooBig → ⊥ }
     ensures size { IfOk result (λ n. (n ≤ length piece.new) × (vec_len bytes.new ≡ vec_len bytes.old + n)) }
@@ -59,7 +60,8 @@ fn read_piece<F: Files>(
 /// Reads the whole file of that name, of at most `limit` bytes.
 ///
 /// `TooBig` comes exactly where the file is longer and no read failed, `Fault` only where the count
-/// of this name rose. No byte beyond `limit + 1` is asked for.
+/// of this name rose, and every other answer only where no count moved. No byte beyond `limit + 1`
+/// is asked for.
 pub fn read_all<F: Files>(
     alloc: Global,
     files: &mut F,
@@ -71,6 +73,7 @@ pub fn read_all<F: Files>(
     ensures limit { IfOk result (λ v. vec_len v ≤ limit) }
     ensures too_big { IsErrOf result ReadError.TooBig → IfSome (F.told files.old name.now) (λ all. limit < length all) }
     ensures cause { IsErrOf result ReadError.Fault → Rose (F.faults files.old name.now) (F.faults files.new name.now) }
+    ensures calm { (IsErrOf result ReadError.Fault → ⊥) → CountsStay (F.faults files.old) (F.faults files.new) }
     ensures known { F.known files.new ≡ F.known files.old }
     ensures keeps { Keeps (F.known files.old) (F.told files.old) (F.told files.new) (F.faults files.old) (F.faults files.new) name.now }
 {

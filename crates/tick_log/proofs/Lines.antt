@@ -1,25 +1,26 @@
 -- The texts of loops: signals, ticks, domains, joins and channels.
-use Rattle.std.proofs.Common.{◌≡◌, ℕ, zero, suc, ℤ, Bool, true, false, get_or, ◌+◌, ◌-◌, ◌≤◌, ◌<◌, List, [], ◌∷◌, ◌++◌, length, map, drop, refl, sym, ap, ◌∙◌, subst, arith, cond, Option, None, inl, inr}
+use Rattle.std.proofs.Common.{All, ◌≡◌, ℕ, zero, suc, ℤ, get_or, ◌+◌, ◌-◌, ◌≤◌, ◌<◌, List, [], ◌∷◌, ◌++◌, length, map, drop, refl, sym, ap, ◌∙◌, subst, arith, Option, None}
 use Rattle.std.proofs.Math.Seq.{drop-cons}
-use Rattle.std.proofs.lemmas.List.{drop_all, get_or_read, nil_from_length, length-map}
-use Rattle.std.proofs.lemmas.Bool.{cases_lt}
+use Rattle.std.proofs.lemmas.List.{drop_all, get_or_read, length-map}
+use Rattle.std.proofs.lemmas.List.Elements.{All-get_or}
 use Rattle.std.proofs.lemmas.Grind.{flat_map-append}
-use Rattle.std.specs.List.{filter}
 use Rattle.java_values.specs.declared.kind.Kind.{Kind}
 use Rattle.kernel_terms.specs.declared.system.System.{System}
 use Rattle.kernel_terms.specs.declared.tables.SignalInfo.{SignalInfo}
 use Rattle.kernel_terms.specs.declared.tables.ChannelInfo.{ChannelInfo}
 use Rattle.kernel_terms.specs.declared.tables.Tables.{Tables}
 use Rattle.kernel_terms.specs.Systems.{tables_of}
-use Rattle.kernel_terms.specs.TableEntries.{no_channel, is_interface_of, interface_of, channel_at}
+use Rattle.kernel_terms.specs.Limits.{most_signals}
+use Rattle.kernel_terms.specs.TableEntries.{no_signal, no_channel, interface_of, signal_at, channel_at}
 use Rattle.tick_log.specs.declared.history.JoinRow.{JoinRow}
-use Rattle.tick_log.specs.Puts.{Puts}
+use Rattle.tick_log.specs.Prints.{Standing, Adds}
 use Rattle.tick_log.specs.definitions.Runs.{Entry, entry_at, row_at}
 use Rattle.tick_log.specs.declared.run.Run.{Run}
 use Rattle.tick_log.specs.definitions.Containers.{LogState, HistoryState, logged, joined, no_log}
 use Rattle.tick_log.specs.definitions.Holding.{HoldsRun}
 use Rattle.tick_log.specs.definitions.RunText.{signal_text, signal_texts, interface_signals, tick_line, tick_lines, domain_line, domain_lines, join_line, join_lines, channel_line, channel_lines, text_of_lines}
-use Rattle.tick_log.proofs.Texts.{Completes, completes_first, completes_on, completes_last}
+use Rattle.tick_log.proofs.Few.{few_signals}
+use Rattle.tick_log.proofs.Adding.{Completes, completes_first, completes_on, completes_last}
 
 no_statuses : (infos : List SignalInfo) → signal_texts infos [] ≡ []
 no_statuses [] = refl
@@ -32,61 +33,21 @@ texts_drop x rest [] own =
 texts_drop x rest (s ∷ ss) zero = refl
 texts_drop x rest (s ∷ ss) (suc own) = let z : suc own + 1 ≡ suc (own + 1) = omega arith in rw z (texts_drop x rest ss own)
 
--- after i signals of the table, and so many of the domain's own: the texts so far, and how many are left
-pub record Walks (p q : Bool) (a b : Option (List ℕ)) (f g d : ℕ) (signals : List SignalInfo) (statuses : List (Option ℤ)) (i own many : ℕ) : Type 0 where
-  pub texts : Completes p q a b f g (signal_texts (filter (is_interface_of d) (drop i signals)) (drop own statuses)) (signal_texts (filter (is_interface_of d) signals) statuses)
-  pub left : own + length (filter (is_interface_of d) (drop i signals)) ≡ many
-
-pub walks_first : (p : Bool) (a : Option (List ℕ)) (f d : ℕ) (signals : List SignalInfo) (statuses : List (Option ℤ)) (many : ℕ) → many ≡ length (filter (is_interface_of d) signals) → Walks p p a a f f d signals statuses 0 0 many
-walks_first p a f d signals statuses many e = record { texts = completes_first p a f _; left = omega arith }
-
-filter_drop : (d : ℕ) (signals : List SignalInfo) (i : ℕ) (x : SignalInfo) → i < length signals → x ≡ get_or signals i x → filter (is_interface_of d) (drop i signals) ≡ filter (is_interface_of d) (x ∷ drop (i + 1) signals)
-filter_drop d signals i x lt at =
+-- the text of the i-th signal of a domain, and those after it
+pub signals_more : (p q r : Standing) (t : Tables) (own : List ℕ) (statuses : List (Option ℤ)) (i d : ℕ) (info : SignalInfo) (status : Option ℤ) (all : List ℕ) → i < length own → All (λ n. n < length t.signals) own → info ≡ get_or t.signals (get_or own i d) info → status ≡ get_or statuses i None
+    → Completes p q (signal_texts (map (signal_at t) (drop i own)) (drop i statuses)) all → Adds q r (signal_text info status) → Completes p r (signal_texts (map (signal_at t) (drop (i + 1) own)) (drop (i + 1) statuses)) all
+signals_more p q r t own statuses i d info status all lt known at e s u =
+    let number = get_or own i d in
+    let rest = map (signal_at t) (drop (i + 1) own) in
     let one : suc i ≡ i + 1 = omega arith in
-    ap (λ l. filter (is_interface_of d) l) (drop-cons signals i x lt ∙ ap (λ y. y ∷ drop (suc i) signals) (sym at) ∙ ap (λ k. x ∷ drop k signals) one)
+    let same : signal_at t number ≡ info = sym (get_or_read t.signals number info (All-get_or (λ n. n < length t.signals) own i d lt known) at no_signal) in
+    let here : map (signal_at t) (drop i own) ≡ info ∷ rest = ap (map (signal_at t)) (drop-cons own i d lt ∙ ap (λ l. number ∷ drop l own) one) ∙ ap (λ x. x ∷ rest) same in
+    let split = ap (λ l. signal_texts l (drop i statuses)) here ∙ texts_drop info rest statuses i ∙ ap (λ o. signal_text info o ++ signal_texts rest (drop (i + 1) statuses)) (sym e) in
+    completes_on p q r (signal_text info status) (signal_texts rest (drop (i + 1) statuses)) all (subst (λ l. Completes p q l all) split s) u
 
--- the i-th signal is one of the domain's interface, or isn't
-filter_own : (d : ℕ) (signals : List SignalInfo) (i : ℕ) (x : SignalInfo) → i < length signals → x ≡ get_or signals i x → true ≡ is_interface_of d x → filter (is_interface_of d) (drop i signals) ≡ x ∷ filter (is_interface_of d) (drop (i + 1) signals)
-filter_own d signals i x lt at is =
-    let rest = filter (is_interface_of d) (drop (i + 1) signals) in
-    filter_drop d signals i x lt at ∙ ap (λ b. cond b (x ∷ rest) rest) (sym is)
-
-filter_other : (d : ℕ) (signals : List SignalInfo) (i : ℕ) (x : SignalInfo) → i < length signals → x ≡ get_or signals i x → false ≡ is_interface_of d x → filter (is_interface_of d) (drop i signals) ≡ filter (is_interface_of d) (drop (i + 1) signals)
-filter_other d signals i x lt at is =
-    let rest = filter (is_interface_of d) (drop (i + 1) signals) in
-    filter_drop d signals i x lt at ∙ ap (λ b. cond b (x ∷ rest) rest) (sym is)
-
-pub walks_own : (p q r : Bool) (a b c : Option (List ℕ)) (f g h d : ℕ) (signals : List SignalInfo) (statuses : List (Option ℤ)) (i own many : ℕ) (x : SignalInfo) (status : Option ℤ) → i < length signals → x ≡ get_or signals i x → true ≡ is_interface_of d x
-    → status ≡ get_or statuses own None → Puts q r b c g h (signal_text x status) → Walks p q a b f g d signals statuses i own many → Walks p r a c f h d signals statuses (i + 1) (own + 1) many
-walks_own p q r a b c f g h d signals statuses i own many x status lt at is e u w =
-    let rest = filter (is_interface_of d) (drop (i + 1) signals) in
-    let kept = filter_own d signals i x lt at is in
-    let all = signal_texts (filter (is_interface_of d) signals) statuses in
-    let s = ap (λ l. signal_texts l (drop own statuses)) kept ∙ texts_drop x rest statuses own ∙ ap (λ o. signal_text x o ++ signal_texts rest (drop (own + 1) statuses)) (sym e) in
-    let len = ap length kept in
-    record {
-      texts = completes_on p q r a b c f g h (signal_text x status) (signal_texts rest (drop (own + 1) statuses)) all (subst (λ l. Completes p q a b f g l all) s w.texts) u;
-      left = omega (arith, len, w.left);
-    }
-
-pub walks_other : (p q : Bool) (a b : Option (List ℕ)) (f g d : ℕ) (signals : List SignalInfo) (statuses : List (Option ℤ)) (i own many : ℕ) (x : SignalInfo) → i < length signals → x ≡ get_or signals i x → false ≡ is_interface_of d x → Walks p q a b f g d signals statuses i own many → Walks p q a b f g d signals statuses (i + 1) own many
-walks_other p q a b f g d signals statuses i own many x lt at is w =
-    let kept = filter_other d signals i x lt at is in
-    let all = signal_texts (filter (is_interface_of d) signals) statuses in
-    record { texts = subst (λ l. Completes p q a b f g (signal_texts l (drop own statuses)) all) kept w.texts; left = ap (λ l. own + length l) (sym kept) ∙ w.left }
-
--- there is a signal for each status that is left
-pub some_left : (p q : Bool) (a b : Option (List ℕ)) (f g d : ℕ) (signals : List SignalInfo) (statuses : List (Option ℤ)) (i own many : ℕ) → own < many → Walks p q a b f g d signals statuses i own many → i < length signals
-some_left p q a b f g d signals statuses i own many more w = elim (cases_lt i (length signals)) [ inl lt ↦ lt | inr le ↦ absurd (none le) ] where
-  none : length signals ≤ i → ⊥
-  none le = let gone : length (filter (is_interface_of d) (drop i signals)) ≡ 0 = ap (λ l. length (filter (is_interface_of d) l)) (drop_all i signals le) in omega (arith, gone, w.left)
-
-pub walks_last : (p q : Bool) (a b : Option (List ℕ)) (f g d : ℕ) (signals : List SignalInfo) (statuses : List (Option ℤ)) (i own many : ℕ) → many ≤ own → Walks p q a b f g d signals statuses i own many → Puts p q a b f g (signal_texts (filter (is_interface_of d) signals) statuses)
-walks_last p q a b f g d signals statuses i own many e w =
-    let all = signal_texts (filter (is_interface_of d) signals) statuses in
-    let left = w.left in
-    let none : filter (is_interface_of d) (drop i signals) ≡ [] = nil_from_length _ (omega arith) in
-    completes_last p q a b f g all (subst (λ l. Completes p q a b f g (signal_texts l (drop own statuses)) all) none w.texts)
+pub signals_last : (p q : Standing) (t : Tables) (own : List ℕ) (statuses : List (Option ℤ)) (i : ℕ) (all : List ℕ) → length own ≤ i → Completes p q (signal_texts (map (signal_at t) (drop i own)) (drop i statuses)) all → Adds p q all
+signals_last p q t own statuses i all le s =
+    completes_last p q all (subst (λ l. Completes p q (signal_texts (map (signal_at t) l) (drop i statuses)) all) (drop_all i own le) s)
 
 -- the line of the i-th tick, and the lines after it
 ticks_drop : (infos : List SignalInfo) (entries : List Entry) (i tick : ℕ) → i < length entries
@@ -95,11 +56,11 @@ ticks_drop infos [] i tick lt = absurd (omega arith)
 ticks_drop infos (e ∷ es) zero tick lt = refl
 ticks_drop infos (e ∷ es) (suc i) tick lt = let z : suc i + 1 ≡ suc (i + 1) = omega arith in rw z (ticks_drop infos es i tick (omega arith))
 
-pub ticks_more : (p q r : Bool) (a b c : Option (List ℕ)) (f g h : ℕ) (infos : List SignalInfo) (entries : List Entry) (i : ℕ) (all : List ℕ) → i < length entries
-    → Completes p q a b f g (text_of_lines (tick_lines infos (i + 1) (drop i entries))) all → Puts q r b c g h (tick_line infos (i + 1) (entry_at entries (i + 1 - 1)) ++ 10 ∷ []) → Completes p r a c f h (text_of_lines (tick_lines infos (i + 1 + 1) (drop (i + 1) entries))) all
-ticks_more p q r a b c f g h infos entries i all lt t u =
+pub ticks_more : (p q r : Standing) (infos : List SignalInfo) (entries : List Entry) (i : ℕ) (all : List ℕ) → i < length entries
+    → Completes p q (text_of_lines (tick_lines infos (i + 1) (drop i entries))) all → Adds q r (tick_line infos (i + 1) (entry_at entries (i + 1 - 1)) ++ 10 ∷ []) → Completes p r (text_of_lines (tick_lines infos (i + 1 + 1) (drop (i + 1) entries))) all
+ticks_more p q r infos entries i all lt t u =
     let same : i + 1 - 1 ≡ i = omega arith in
-    completes_on p q r a b c f g h (tick_line infos (i + 1) (entry_at entries i) ++ 10 ∷ []) _ all (subst (λ l. Completes p q a b f g l all) (ticks_drop infos entries i (i + 1) lt) t) (subst (λ n. Puts q r b c g h (tick_line infos (i + 1) (entry_at entries n) ++ 10 ∷ [])) same u)
+    completes_on p q r (tick_line infos (i + 1) (entry_at entries i) ++ 10 ∷ []) _ all (subst (λ l. Completes p q l all) (ticks_drop infos entries i (i + 1) lt) t) (subst (λ n. Adds q r (tick_line infos (i + 1) (entry_at entries n) ++ 10 ∷ [])) same u)
 
 -- the lines of the i-th domain, and the lines after them
 domains_drop : (t : Tables) (logs : List LogState) (i domain : ℕ) (d : LogState) → i < length logs
@@ -108,12 +69,12 @@ domains_drop t [] i domain d lt = absurd (omega arith)
 domains_drop t (l ∷ ls) zero domain d lt = flat_map-append (λ line. line ++ 10 ∷ []) (domain_line domain (logged l) ∷ tick_lines (interface_signals t domain) 1 l.entries) (domain_lines t (domain + 1) (map logged ls))
 domains_drop t (l ∷ ls) (suc i) domain d lt = let z : suc i + 1 ≡ suc (i + 1) = omega arith in rw z (domains_drop t ls i domain d (omega arith))
 
-pub domains_more : (p q r : Bool) (a b c : Option (List ℕ)) (f g h : ℕ) (t : Tables) (logs : List LogState) (i : ℕ) (log : LogState) (all : List ℕ) → i < length logs → log ≡ get_or logs i log
-    → Completes p q a b f g (text_of_lines (domain_lines t i (map logged (drop i logs)))) all → Puts q r b c g h (text_of_lines (domain_line i (logged log) ∷ tick_lines (interface_signals t i) 1 log.entries)) → Completes p r a c f h (text_of_lines (domain_lines t (i + 1) (map logged (drop (i + 1) logs)))) all
-domains_more p q r a b c f g h t logs i log all lt is s u =
+pub domains_more : (p q r : Standing) (t : Tables) (logs : List LogState) (i : ℕ) (log : LogState) (all : List ℕ) → i < length logs → log ≡ get_or logs i log
+    → Completes p q (text_of_lines (domain_lines t i (map logged (drop i logs)))) all → Adds q r (text_of_lines (domain_line i (logged log) ∷ tick_lines (interface_signals t i) 1 log.entries)) → Completes p r (text_of_lines (domain_lines t (i + 1) (map logged (drop (i + 1) logs)))) all
+domains_more p q r t logs i log all lt is s u =
     let rest = text_of_lines (domain_lines t (i + 1) (map logged (drop (i + 1) logs))) in
     let e = domains_drop t logs i i log lt ∙ ap (λ l. text_of_lines (domain_line i (logged l) ∷ tick_lines (interface_signals t i) 1 l.entries) ++ rest) (sym is) in
-    completes_on p q r a b c f g h (text_of_lines (domain_line i (logged log) ∷ tick_lines (interface_signals t i) 1 log.entries)) rest all (subst (λ l. Completes p q a b f g l all) e s) u
+    completes_on p q r (text_of_lines (domain_line i (logged log) ∷ tick_lines (interface_signals t i) 1 log.entries)) rest all (subst (λ l. Completes p q l all) e s) u
 
 -- the line of the i-th join, and the lines after it
 joins_drop : (kind : Kind) (rows : List JoinRow) (i join : ℕ) → i < length rows → text_of_lines (join_lines kind join (drop i rows)) ≡ (join_line kind join (row_at rows i) ++ 10 ∷ []) ++ text_of_lines (join_lines kind (join + 1) (drop (i + 1) rows))
@@ -121,12 +82,12 @@ joins_drop kind [] i join lt = absurd (omega arith)
 joins_drop kind (r ∷ rs) zero join lt = refl
 joins_drop kind (r ∷ rs) (suc i) join lt = let z : suc i + 1 ≡ suc (i + 1) = omega arith in rw z (joins_drop kind rs i join (omega arith))
 
-pub joins_more : (p q r : Bool) (a b c : Option (List ℕ)) (f g h : ℕ) (kind : Kind) (rows : List JoinRow) (i : ℕ) (row : JoinRow) (all : List ℕ) → i < length rows → row ≡ row_at rows (i + 1 - 1)
-    → Completes p q a b f g (text_of_lines (join_lines kind (i + 1) (drop i rows))) all → Puts q r b c g h (join_line kind (i + 1) row ++ 10 ∷ []) → Completes p r a c f h (text_of_lines (join_lines kind (i + 1 + 1) (drop (i + 1) rows))) all
-joins_more p q r a b c f g h kind rows i row all lt is t u =
+pub joins_more : (p q r : Standing) (kind : Kind) (rows : List JoinRow) (i : ℕ) (row : JoinRow) (all : List ℕ) → i < length rows → row ≡ row_at rows (i + 1 - 1)
+    → Completes p q (text_of_lines (join_lines kind (i + 1) (drop i rows))) all → Adds q r (join_line kind (i + 1) row ++ 10 ∷ []) → Completes p r (text_of_lines (join_lines kind (i + 1 + 1) (drop (i + 1) rows))) all
+joins_more p q r kind rows i row all lt is t u =
     let same : i + 1 - 1 ≡ i = omega arith in
     let at : row ≡ row_at rows i = is ∙ ap (λ n. row_at rows n) same in
-    completes_on p q r a b c f g h (join_line kind (i + 1) (row_at rows i) ++ 10 ∷ []) _ all (subst (λ l. Completes p q a b f g l all) (joins_drop kind rows i (i + 1) lt) t) (subst (λ x. Puts q r b c g h (join_line kind (i + 1) x ++ 10 ∷ [])) at u)
+    completes_on p q r (join_line kind (i + 1) (row_at rows i) ++ 10 ∷ []) _ all (subst (λ l. Completes p q l all) (joins_drop kind rows i (i + 1) lt) t) (subst (λ x. Adds q r (join_line kind (i + 1) x ++ 10 ∷ [])) at u)
 
 -- the lines of the i-th channel, and the lines after them
 channels_drop : (t : Tables) (histories : List HistoryState) (i channel : ℕ) (d : HistoryState) → i < length histories
@@ -135,27 +96,30 @@ channels_drop t [] i channel d lt = absurd (omega arith)
 channels_drop t (x ∷ xs) zero channel d lt = flat_map-append (λ line. line ++ 10 ∷ []) (channel_line (channel_at t channel).name x.rows ∷ join_lines (channel_at t channel).kind 1 x.rows) (channel_lines t (channel + 1) (map joined xs))
 channels_drop t (x ∷ xs) (suc i) channel d lt = let z : suc i + 1 ≡ suc (i + 1) = omega arith in rw z (channels_drop t xs i channel d (omega arith))
 
-pub channels_more : (p q r : Bool) (a b c : Option (List ℕ)) (f g h : ℕ) (t : Tables) (histories : List HistoryState) (i : ℕ) (history : HistoryState) (info : ChannelInfo) (all : List ℕ) → i < length histories → history ≡ get_or histories i history → i < length t.channels → info ≡ get_or t.channels i info
-    → Completes p q a b f g (text_of_lines (channel_lines t i (map joined (drop i histories)))) all → Puts q r b c g h (text_of_lines (channel_line info.name history.rows ∷ join_lines info.kind 1 history.rows)) → Completes p r a c f h (text_of_lines (channel_lines t (i + 1) (map joined (drop (i + 1) histories)))) all
-channels_more p q r a b c f g h t histories i history info all lt is less at s u =
+pub channels_more : (p q r : Standing) (t : Tables) (histories : List HistoryState) (i : ℕ) (history : HistoryState) (info : ChannelInfo) (all : List ℕ) → i < length histories → history ≡ get_or histories i history → i < length t.channels → info ≡ get_or t.channels i info
+    → Completes p q (text_of_lines (channel_lines t i (map joined (drop i histories)))) all → Adds q r (text_of_lines (channel_line info.name history.rows ∷ join_lines info.kind 1 history.rows)) → Completes p r (text_of_lines (channel_lines t (i + 1) (map joined (drop (i + 1) histories)))) all
+channels_more p q r t histories i history info all lt is less at s u =
     let rest = text_of_lines (channel_lines t (i + 1) (map joined (drop (i + 1) histories))) in
     let same : channel_at t i ≡ info = sym (get_or_read t.channels i info less at no_channel) in
     let e = channels_drop t histories i i history lt ∙ ap (λ l. text_of_lines (channel_line (channel_at t i).name l.rows ∷ join_lines (channel_at t i).kind 1 l.rows) ++ rest) (sym is) ∙ ap (λ x. text_of_lines (channel_line x.name history.rows ∷ join_lines x.kind 1 history.rows) ++ rest) same in
-    completes_on p q r a b c f g h (text_of_lines (channel_line info.name history.rows ∷ join_lines info.kind 1 history.rows)) rest all (subst (λ l. Completes p q a b f g l all) e s) u
+    completes_on p q r (text_of_lines (channel_line info.name history.rows ∷ join_lines info.kind 1 history.rows)) rest all (subst (λ l. Completes p q l all) e s) u
 
 -- the i-th log is over the signals of its domain
 pub log_signals : (system : System) (run : Run) (i : ℕ) (log : LogState) → HoldsRun system run → i < length run.domains.items → log ≡ get_or run.domains.items i log → log.signals ≡ length (interface_of (tables_of system) i)
 log_signals system run i log holds lt at = ap (λ l. l.signals) (get_or_read run.domains.items i log lt at no_log) ∙ holds.signals i lt
 
+pub domain_few : (system : System) (run : Run) (i : ℕ) → HoldsRun system run → i < length run.domains.items → length (interface_of (tables_of system) i) ≤ most_signals
+domain_few system run i holds lt = few_signals system i (omega (arith, lt, length-map run.domains.items logged, holds.fits.domains))
+
 -- the i-th history is one of a channel
 pub channel_within : (system : System) (run : Run) (i : ℕ) → HoldsRun system run → i < length run.channels.items → i < length (tables_of system).channels
 channel_within system run i holds lt = omega (arith, lt, length-map run.channels.items joined, holds.fits.channels)
 
-pub ruleset signal_steps = (walks_first, walks_own, walks_other, some_left, walks_last)
+pub ruleset signal_steps = (completes_first, signals_more, signals_last)
 
 pub ruleset tick_steps = (completes_first, completes_last, ticks_more)
 
-pub ruleset domain_steps = (completes_first, completes_last, domains_more, log_signals)
+pub ruleset domain_steps = (completes_first, completes_last, domains_more, log_signals, domain_few)
 
 pub ruleset join_steps = (completes_first, completes_last, joins_more)
 

@@ -1,3 +1,4 @@
 pub mod Logs
 pub mod Puts
+pub mod Prints
 pub mod definitions

@@ -3,6 +3,7 @@
 
 mod history;
 mod log;
+mod printer;
 mod run;
 #[cfg(test)]
 mod tests;

@@ -135,14 +135,8 @@ fn append(statuses: &mut Vec<Option<i64>>, present: &[bool], values: &[i64])
     ensures capacity { vec_capacity statuses.old ≤ vec_capacity statuses.new }
 {
     for (i, is_present) in present.iter().enumerate() {
-        push_within(statuses, status_of(*is_present, values[i]));
+        push_within(statuses, is_present.then_some(values[i]));
     }
-}
-
-fn status_of(is_present: bool, value: i64) -> Option<i64>
-    ensures { result ≡ cond is_present (Some value) None }
-{
-    if is_present { Some(value) } else { None }
 }
 
 // Adds an item, into memory that is there already.

@@ -1,4 +1,4 @@
-ghost use Rattle.std.specs.Prelude.{◌≡◌, true, [], ◌∷◌, length, IfOk, codes};
+ghost use Rattle.std.specs.Prelude.{◌≡◌, ◌≤◌, true, [], ◌∷◌, length, IfOk, codes};
 ghost use Rattle.kernel_terms.specs.Systems.{tables_of, domains_of};
 ghost use Rattle.kernel_terms.specs.WellFormed.{is_well_formed};
 ghost use Rattle.kernel_terms.specs.TableEntries.{channel_at, interface_of};
@@ -8,7 +8,7 @@ ghost use Rattle.tick_log.specs.definitions.Fits.{IsLog, IsHistory};
 use crate::{History, JoinRow, Log, Run, print};
 use java_values::{Kind, NoMemory, Text};
 use kernel_terms::{ChannelInfo, Combine, Form, SignalInfo, Sort, System, Tables, Term};
-use sj_io::{MemSink, WriteError};
+use sj_io::{Failed, MemSink, Sink, WriteError};
 use sqlite_items::{Boxed, Items};
 use std::alloc::Global;
 use std::test::Fail;
@@ -190,11 +190,11 @@ fn two_domains(alloc: Global) -> Result<System, NoMemory>
 }
 
 // Prints the run of one log.
-fn print_one(
+fn print_one<K: Sink>(
     alloc: Global,
     log: Log,
     system: &System,
-    out: &mut MemSink,
+    out: &mut K,
 ) -> Result<Result<(), WriteError>, NoMemory>
     requires domains { length (domains_of system.now) ≡ 1 }
     requires channels { (tables_of system.now).channels ≡ [] }
@@ -314,17 +314,79 @@ fn one_rendezvous(rt: HostRuntime) -> Result<(), Fail> {
     Ok(())
 }
 
-// The calls write `domai`, `n ` and nothing more.
+// Prints a run of one tick to a sink that takes so many bytes a call, of which this call fails, and
+// answers what the sink holds then.
+fn front_at(alloc: Global, piece: usize, call: u64) -> Result<Vec<u8>, NoMemory>
+    requires { 1 ≤ piece }
+{
+    let system = one_signal(alloc)?;
+    let mut log = Log::open(alloc, 1, 1)?;
+    log.push(1, &[true], &[0], true);
+    let fail = [call].to_vec(alloc)?;
+    let space = [0u8; 128].to_vec(alloc)?;
+    let mut out = MemSink::new(piece, fail, space);
+    match print_one(alloc, log, &system, &mut out)? {
+        Ok(()) => Ok(Vec::new(alloc)),
+        Err(WriteError::Fault) => Ok(out.bytes().to_vec(alloc)?),
+    }
+}
+
 #[test]
 fn a_failed_call_leaves_a_front_of_the_text(rt: HostRuntime) -> Result<(), Fail> {
-    let system = one_signal(rt.alloc())?;
-    let mut log = Log::open(rt.alloc(), 1, 1)?;
-    log.push(1, &[true], &[0], true);
-    let mut out = sink_of(rt.alloc(), &[3])?;
+    let alloc = rt.alloc();
+    assert_eq!(rt; front_at(alloc, 1, 1)?.as_slice(), b"".as_slice());
+    assert_eq!(rt; front_at(alloc, 1, 2)?.as_slice(), b"d".as_slice());
+    assert_eq!(rt; front_at(alloc, 5, 3)?.as_slice(), b"domain 0 t".as_slice());
     assert_eq!(rt;
-        print_one(rt.alloc(), log, &system, &mut out)?,
-        Err(WriteError::Fault)
+        front_at(alloc, 5, 6)?.as_slice(),
+        b"domain 0 ticks 1 ended\n1 ".as_slice()
     );
-    assert_eq!(rt; out.bytes(), b"domain ".as_slice());
+    Ok(())
+}
+
+// A log of so many ticks, in each of which the signal `A` is present.
+#[tactic(auto, using(crate::proofs::LongLogs::long_steps))]
+fn long_log(alloc: Global, ticks: u32) -> Result<Log, NoMemory>
+    requires { ticks ≤ 100_000 }
+    ensures fits { IfOk result (λ log. IsLog (record { signals = record { name = codes "A"; domain = 0; sort = Sort.Output; kind = None; combine = Combine.Max } ∷ []; channels = []; variables = [] }) 0 (logged log)) }
+    ensures signals { IfOk result (λ log. log.signals ≡ 1) }
+{
+    let mut log = Log::open(alloc, 1, ticks)?;
+    for i in 0..ticks {
+        log.push(u64::from(i) + 1, &[true], &[0], false);
+    }
+    Ok(log)
+}
+
+// A sink that takes all, and counts its calls and their bytes.
+#[derive(Drop)]
+struct Counting {
+    calls: u64,
+    bytes: u64,
+}
+
+impl Sink for Counting {
+    ghost use Rattle.std.specs.Prelude.{None};
+
+    ghost taken = { λ s. None };
+
+    ghost faults = { λ s. 0 };
+
+    fn write(&mut self, buf: &[u8]) -> Result<usize, Failed> {
+        self.calls = self.calls.saturating_add(1);
+        self.bytes = self.bytes.saturating_add(buf.len() as u64);
+        Ok(buf.len())
+    }
+}
+
+// The text of the run has 10,813 bytes.
+#[test]
+fn a_long_run_makes_few_calls(rt: HostRuntime) -> Result<(), Fail> {
+    let system = one_signal(rt.alloc())?;
+    let log = long_log(rt.alloc(), 1000)?;
+    let mut out = Counting { calls: 0, bytes: 0 };
+    assert_eq!(rt; print_one(rt.alloc(), log, &system, &mut out)?, Ok(()));
+    assert_eq!(rt; out.bytes, 10_813);
+    assert_eq!(rt; out.calls, 3);
     Ok(())
 }

@@ -1,10 +1,10 @@
 use Rattle.std.proofs.Common.{w64}
 use Rattle.std.proofs.lemmas.Int.{to_z-of_z}
-use Rattle.tick_log.proofs.Texts.{puts_both}
+use Rattle.tick_log.proofs.Adding.{adds_both}
 use Rattle.tick_log.proofs.text.put_present.Goals as goal
 
 pub returns : goal.returns
 returns g c =
-    let name = rw c.bytes.ensures at c.put-named.ensures in
+    let name = rw c.bytes.ensures at c.put-2.ensures in
     let value = rw (to_z-of_z w64 c.args.value c.ranges.value) at c.put_part.ensures in
-    puts_both _ _ _ _ _ _ _ _ _ _ _ (puts_both _ _ _ _ _ _ _ _ _ _ _ c.put-begun.ensures name) value
+    adds_both _ _ _ _ _ (adds_both _ _ _ _ _ c.put.ensures name) value
