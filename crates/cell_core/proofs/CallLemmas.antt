@@ -1,22 +1,15 @@
 -- Calls of ends, one after another.
-use Rattle.std.proofs.Common.{ℕ, List, [], ◌∷◌, ◌++◌, Option, refl, subst}
+use Rattle.std.proofs.Common.{ℕ, List, [], ◌∷◌, ◌++◌, Option, subst}
 use Rattle.cell_core.specs.declared.moves.Joined.{Joined}
 use Rattle.cell_core.specs.declared.moves.CellMove.{CellMove}
 use Rattle.cell_core.specs.Ends.{EndCall, Through}
 
 module _ {S : Type 0} (moved : S → ℕ → CellMove → Option Joined → S → Type 0) where
   -- no call leads from the ends to themselves
-  pub Through-none : (ends : S) → Through moved ends [] ends
-  Through-none ends = refl
-
   -- calls after calls
   pub Through-append : (first middle last : S) (calls more : List EndCall) →
       Through moved first calls middle → Through moved middle more last → Through moved first (calls ++ more) last
   Through-append first middle last [] more before after = subst (λ s. Through moved s more last) before after
   Through-append first middle last (c ∷ calls) more before after =
       (before.0, before.1, Through-append before.0 middle last calls more before.2 after)
-
   -- one call more
-  pub Through-push : (first middle last : S) (calls : List EndCall) (c : EndCall) →
-      Through moved first calls middle → moved middle c.at c.what c.answer last → Through moved first (calls ++ c ∷ []) last
-  Through-push first middle last calls c before made = Through-append first middle last calls (c ∷ []) before (last, made, refl)

@@ -1,5 +1,5 @@
 -- What a move of a cell does to its two ends.
-use Rattle.std.proofs.Common.{◌≡◌, ℕ, ℤ, IfSome, IfNone, OnSome, IsNone, IsSomeAnd, is_some, refl, ap}
+use Rattle.std.proofs.Common.{◌≡◌, ℕ, ℤ, IfSome, IfNone, OnSome, IsNone, IsSomeAnd, refl, ap}
 use Rattle.java_values.specs.declared.kind.Kind.{Kind}
 use Rattle.cell_core.specs.declared.moves.Side.{Side}
 use Rattle.cell_core.specs.declared.moves.Side.TheVariants.{Sender, Receiver}
@@ -7,17 +7,12 @@ use Rattle.cell_core.specs.declared.moves.CellMove.{CellMove}
 use Rattle.cell_core.specs.declared.moves.CellMove.TheVariants.{Offer, Recall}
 use Rattle.cell_core.specs.declared.cell.Standing.{Standing}
 use Rattle.cell_core.specs.declared.cell.Standing.TheVariants.{Empty, Open, Taken}
-use Rattle.cell_core.specs.Cells.{CellState, other, stands, after_own_offer, after_offer, offer_reply, recall_reply, cell_step, cell_reply}
+use Rattle.cell_core.specs.Cells.{CellState, other, after_own_offer, after_offer, offer_reply, recall_reply, cell_step, cell_reply}
 use Rattle.cell_core.specs.Histories.{side_of}
 use Rattle.cell_core.specs.Ends.{JoinsOffer, JoinsStanding, IsOffer}
 use Rattle.cell_core.specs.CellEnds.{standing_offer, end_of_cell, OfferFits, StandingFits, CellFits, MoveFits}
 
 -- a side stands exactly where its end has an offer that stands
-pub stands-is : (a : Side) (x : Standing) → stands x ≡ is_some (standing_offer a x)
-stands-is a Empty = refl
-stands-is a (Open v s) = refl
-stands-is a (Taken j) = refl
-
 -- an offer of a side changes nothing of what is seen of the other side's offer
 pub offer_after_offer : (a : Side) (v : ℤ) (s : ℕ) (y : Standing) → standing_offer (other a) (after_offer a v s y) ≡ standing_offer (other a) y
 offer_after_offer a v s Empty = refl
@@ -52,11 +47,6 @@ own_free a v s Empty = tt
 own_free a v s (Open w t) = refl
 own_free a v s (Taken j) = tt
 
-pub offer_frees : (kind : Kind) (room : ℕ) (a : Side) (v : ℤ) (s : ℕ) (c : CellState) →
-    OnSome (cell_reply (Offer a v s) c) (IsNone (end_of_cell kind room a (cell_step (Offer a v s) c)).offer)
-offer_frees kind room Sender v s c = own_free Sender v s c.receiver
-offer_frees kind room Receiver v s c = own_free Receiver v s c.sender
-
 -- without a join the side stands with the offer
 own_stands : (a : Side) (v : ℤ) (s : ℕ) (y : Standing) → IfNone (offer_reply a v s y) (IsSomeAnd (standing_offer a (after_own_offer v s y)) (IsOffer a v s))
 own_stands Sender v s Empty = record { same_stamp = refl; own_value = refl }
@@ -84,10 +74,6 @@ recall_joins kind room Sender c fits = joins_standing kind room Sender c.sender 
 recall_joins kind room Receiver c fits = joins_standing kind room Receiver c.receiver fits.receiver
 
 -- after a recall the side doesn't stand
-pub recall_frees : (kind : Kind) (room : ℕ) (a : Side) (c : CellState) → IsNone (end_of_cell kind room a (cell_step (Recall a) c)).offer
-recall_frees kind room Sender c = refl
-recall_frees kind room Receiver c = refl
-
 -- an offer that fits leaves both sides of a cell that fits so
 own_fits : (kind : Kind) (a : Side) (v : ℤ) (s : ℕ) (y : Standing) → OfferFits kind a v s → StandingFits kind a (after_own_offer v s y)
 own_fits kind a v s Empty offer = offer

@@ -1,4 +1,3 @@
 pub mod CellLemmas
 pub mod CallLemmas
-pub mod EndLemmas
 pub mod HistoryLemmas

@@ -19,8 +19,8 @@ pub trait Ends {
     /// ends after it.
     ghost moved: { Self → ℕ → CellMove → Option Joined → Self → Type 0 };
 
-    /// Recalls the offer of end `at`, which stands. The answer is the join of that offer, if there was
-    /// one. Either way the end doesn't stand afterwards.
+    /// Recalls the offer of end `at`, which stands. The answer is a join of that offer or none. Either way
+    /// the end doesn't stand afterwards.
     fn recall(&mut self, at: usize) -> Option<Joined>
         requires end { at < count self.old }
         requires room { 1 ≤ (end_at self.old at).room }
@@ -32,8 +32,8 @@ pub trait Ends {
         ensures free { IsNone (end_at self.new at).offer };
 
     /// Offers at end `at`, which doesn't stand, with a stamp below 2^62 and, at a sender, a value in the
-    /// channel's kind. A receiver's value is ignored. The answer is the join, if the offer met one that
-    /// stood. Otherwise the end stands with the offer.
+    /// channel's kind. A receiver's value is ignored. The answer is a join of this offer or none, and after
+    /// none the end stands with the offer.
     fn offer(&mut self, at: usize, value: i64, stamp: u64) -> Option<Joined>
         requires end { at < count self.old }
         requires room { 1 ≤ (end_at self.old at).room }

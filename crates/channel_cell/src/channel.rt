@@ -61,8 +61,8 @@ impl SenderEnd {
     }
 
     /// Offers a value of the channel's kind with a stamp below 2^62, where no offer of this end stands.
-    /// The answer is the join exactly where the receiver's offer stands and isn't taken. Otherwise this
-    /// offer stands.
+    /// The answer is a join of this offer or none, and this end's moves with their answers are a legal
+    /// history of a cell with some moves of the other end. After no join the offer stands.
     pub fn offer(&mut self, value: i64, stamp: u64) -> Option<Joined>
         requires standing { IsNone self.old.offer }
         requires room { 1 ≤ self.old.room }
@@ -75,8 +75,9 @@ impl SenderEnd {
         self.end.offer_to_send(value, stamp)
     }
 
-    /// Recalls the offer that stands. The answer is the join exactly where the receiver has taken the
-    /// offer. Otherwise the offer is withdrawn.
+    /// Recalls the offer that stands. The answer is a join of that offer or none, and this end's moves
+    /// with their answers are a legal history of a cell with some moves of the other end. Either way the
+    /// end doesn't stand afterwards.
     pub fn recall(&mut self) -> Option<Joined>
         requires standing { IsSome self.old.offer }
         requires room { 1 ≤ self.old.room }
@@ -114,8 +115,9 @@ impl ReceiverEnd {
         self.end.standing()
     }
 
-    /// Offers to receive, with a stamp below 2^62, where no offer of this end stands. The answer is the
-    /// join exactly where the sender's offer stands and isn't taken. Otherwise this offer stands.
+    /// Offers to receive, with a stamp below 2^62, where no offer of this end stands. The answer is a
+    /// join of this offer or none, and this end's moves with their answers are a legal history of a cell
+    /// with some moves of the other end. After no join the offer stands.
     pub fn offer(&mut self, stamp: u64) -> Option<Joined>
         requires standing { IsNone self.old.offer }
         requires room { 1 ≤ self.old.room }
@@ -127,8 +129,9 @@ impl ReceiverEnd {
         self.end.offer_to_receive(stamp)
     }
 
-    /// Recalls the offer that stands. The answer is the join exactly where the sender has taken the
-    /// offer. Otherwise the offer is withdrawn.
+    /// Recalls the offer that stands. The answer is a join of that offer or none, and this end's moves
+    /// with their answers are a legal history of a cell with some moves of the other end. Either way the
+    /// end doesn't stand afterwards.
     pub fn recall(&mut self) -> Option<Joined>
         requires standing { IsSome self.old.offer }
         requires room { 1 ≤ self.old.room }
@@ -149,7 +152,8 @@ pub struct Settled {
 }
 
 /// Recalls at each end of a channel the offer that stands, if one does. At most one of the two answers is a
-/// join, and the two ends then have the same joins, with stamps exchanged.
+/// join. All moves of both ends are then one legal history of a cell, and the two ends have the same joins,
+/// with stamps exchanged.
 pub fn settle(sender: SenderEnd, receiver: ReceiverEnd) -> Settled
     requires channel { receiver.channel ≡ sender.channel }
     requires sender_room { IsSome sender.offer → 1 ≤ sender.room }

@@ -3,9 +3,10 @@ ghost use Rattle.java_values.specs.Kinds.{IsInRange};
 ghost use Rattle.java_values.specs.declared.kind.Kind.TheVariants as kinds;
 
 use crate::{Channel, ReceiverEnd, SenderEnd, settle};
-use cell_core::{Cell, Side};
+use cell_core::{Cell, Joined, Side};
 use java_values::{Kind, NoMemory};
 use std::alloc::Global;
+use std::sync::atomic::{AtomicU64, Ordering};
 use std::test::Fail;
 use std::thread::join;
 
@@ -56,7 +57,7 @@ fn channel_agrees(alloc: Global, moves: &[u8]) -> Result<bool, NoMemory>
     for i in 0..moves.len() {
         let stamp = i as u64 + 1;
         let agrees = if moves[i] == b's' {
-            sender_agrees(&mut cell, &mut sender, 100, stamp)
+            sender_agrees(&mut cell, &mut sender, 100 - i as i64, stamp)
         } else {
             receiver_agrees(&mut cell, &mut receiver, stamp)
         };
@@ -112,83 +113,119 @@ fn a_join_has_the_value_and_both_stamps(rt: HostRuntime) -> Result<(), Fail> {
     Ok(())
 }
 
-const MOVES: u32 = 2000;
+const MOVES: u32 = 100_000;
 
-// The sender's end after its moves, and how many joins it was answered.
+// How many increments of its own counter an end lets its offer stand before it recalls it.
+const STAND: u32 = 20;
+
+// The sender's end after its moves, and the joins that it was answered.
 #[derive(Drop)]
 struct Sent {
     end: SenderEnd,
-    joins: u32,
+    joins: Vec<Joined>,
 }
 
 #[derive(Drop)]
 struct Received {
     end: ReceiverEnd,
-    joins: u32,
+    joins: Vec<Joined>,
 }
 
-fn send(mut end: SenderEnd) -> Sent
-    requires { (2001 ≤ end.room) × (end.kind ≡ kinds.Int) }
-    ensures { (result.end.channel ≡ end.channel) × (1 ≤ result.end.room) }
-{
-    let mut joins = 0;
-    for i in 0..MOVES {
-        let answer = if end.standing() {
-            end.recall()
-        } else {
-            end.offer(7, u64::from(i))
-        };
-        if answer.is_some() {
-            joins += 1;
-        }
+fn stand() {
+    let counter = AtomicU64::new(0);
+    for _ in 0..STAND {
+        counter.fetch_add(1, Ordering::SeqCst);
     }
-    Sent { end, joins }
 }
 
-fn receive(mut end: ReceiverEnd) -> Received
-    requires { 2001 ≤ end.room }
-    ensures { (result.end.channel ≡ end.channel) × (1 ≤ result.end.room) }
+// A new value and a new stamp at each offer.
+fn send(alloc: Global, mut end: SenderEnd) -> Result<Sent, NoMemory>
+    requires { (100001 ≤ end.room) × (end.kind ≡ kinds.Int) }
+    ensures { IfOk result (λ r. (r.end.channel ≡ end.channel) × (1 ≤ r.end.room)) }
 {
-    let mut joins = 0;
+    let mut joins = Vec::new(alloc);
     for i in 0..MOVES {
         let answer = if end.standing() {
+            stand();
             end.recall()
         } else {
-            end.offer(u64::from(i))
+            end.offer(i64::from(i) - 50_000, u64::from(i))
         };
-        if answer.is_some() {
-            joins += 1;
+        if let Some(join) = answer {
+            joins.push(join)?;
         }
     }
-    Received { end, joins }
+    Ok(Sent { end, joins })
+}
+
+fn receive(alloc: Global, mut end: ReceiverEnd) -> Result<Received, NoMemory>
+    requires { 100001 ≤ end.room }
+    ensures { IfOk result (λ r. (r.end.channel ≡ end.channel) × (1 ≤ r.end.room)) }
+{
+    let mut joins = Vec::new(alloc);
+    for i in 0..MOVES {
+        let answer = if end.standing() {
+            stand();
+            end.recall()
+        } else {
+            end.offer(3 * u64::from(i) + 1)
+        };
+        if let Some(join) = answer {
+            joins.push(join)?;
+        }
+    }
+    Ok(Received { end, joins })
+}
+
+// Whether both lists have the same joins in the same order: equal values, and the stamps exchanged.
+fn are_the_same(sent: &[Joined], received: &[Joined]) -> bool {
+    if sent.len() != received.len() {
+        return false;
+    }
+    for i in 0..sent.len() {
+        let turned = Joined {
+            value: sent[i].value,
+            mine: sent[i].theirs,
+            theirs: sent[i].mine,
+        };
+        if received[i] != turned {
+            return false;
+        }
+    }
+    true
 }
 
 #[test]
-fn both_ends_count_the_same_joins(rt: HostRuntime) -> Result<(), Fail> {
-    let (sender, receiver) = Channel::open(rt.alloc(), Kind::Int, 1000)?;
+fn both_ends_have_the_same_joins(rt: HostRuntime) -> Result<(), Fail> {
+    let alloc = rt.alloc();
+    let (sender, receiver) = Channel::open(alloc, Kind::Int, 50_000)?;
     let (sent, received) = join(
         &rt,
-        move || -> Sent
-            requires { (2001 ≤ sender.room) × (sender.kind ≡ kinds.Int) }
-            ensures { (result.end.channel ≡ sender.channel) × (1 ≤ result.end.room) }
-        { send(sender) },
-        move || -> Received
-            requires { 2001 ≤ receiver.room }
-            ensures { (result.end.channel ≡ receiver.channel) × (1 ≤ result.end.room) }
-        { receive(receiver) },
+        move || -> Result<Sent, NoMemory>
+            requires { (100001 ≤ sender.room) × (sender.kind ≡ kinds.Int) }
+            ensures { IfOk result (λ r. (r.end.channel ≡ sender.channel) × (1 ≤ r.end.room)) }
+        { send(alloc, sender) },
+        move || -> Result<Received, NoMemory>
+            requires { 100001 ≤ receiver.room }
+            ensures { IfOk result (λ r. (r.end.channel ≡ receiver.channel) × (1 ≤ r.end.room)) }
+        { receive(alloc, receiver) },
     );
     let Sent {
         end: sender,
-        joins: sent,
-    } = sent;
+        joins: mut sent,
+    } = sent?;
     let Received {
         end: receiver,
-        joins: received,
-    } = received;
+        joins: mut received,
+    } = received?;
     let settled = settle(sender, receiver);
-    let last_sent = if settled.sender.is_some() { 1 } else { 0 };
-    let last_received = if settled.receiver.is_some() { 1 } else { 0 };
-    assert!(rt; u64::from(sent) + last_sent == u64::from(settled.joins));
-    assert!(rt; u64::from(received) + last_received == u64::from(settled.joins));
+    if let Some(join) = settled.sender {
+        sent.push(join)?;
+    }
+    if let Some(join) = settled.receiver {
+        received.push(join)?;
+    }
+    assert!(rt; are_the_same(&sent, &received));
+    assert!(rt; sent.len() as u64 == u64::from(settled.joins));
     Ok(())
 }
