@@ -3,3 +3,4 @@ pub mod DomainKeeps
 pub mod EndPlaces
 pub mod JoinLists
 pub mod StepParts
+pub mod SmallDomains

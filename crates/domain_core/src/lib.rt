@@ -17,8 +17,10 @@ pub use laws::runs::{
 };
 pub use laws::steps::{new_domains_have_no_rounds, steps_are_rounds};
 pub use rows::{
-    join_completes_suspended_receive, join_stays_at_abort, offer_is_withdrawn, one_rendezvous,
-    rendezvous_by_rounds, stamps_count_joins,
+    budgets_are_spent, join_completes_suspended_receive, join_stays_at_abort,
+    joins_have_the_sent_value, marks_are_of_the_domains, offer_is_withdrawn, one_rendezvous,
+    one_stamp_order, rendezvous_by_rounds, smaller_number_comes_first, stamps_count_joins,
+    waiting_ends_are_no_rest,
 };
 pub use step::domain::{CompileError, Domain, compile};
 pub use step::ends_of::{EndJoin, EndOf};

@@ -1,7 +1,8 @@
 // Runs of small programs, by computation. Their functions do nothing.
 
 ghost use Rattle.kernel_terms.specs.Marks.{Going, Ended};
-ghost use Rattle.tick_log.specs.definitions.StampOrder.{Event, IsStampOrder};
+ghost use Rattle.tick_log.specs.definitions.Runs.{RunState};
+ghost use Rattle.tick_log.specs.definitions.StampOrder.{Event, TickOf, JoinOf, IsBefore, IsStampOrder, stamp_of};
 ghost use Rattle.domain_core.specs.definitions.runs.Systems.{SystemState, Steps, start};
 ghost use Rattle.domain_core.specs.definitions.runs.LegalRuns.{IsLegalRun, SpendsBudgets, IsAtRest};
 ghost use Rattle.domain_core.specs.definitions.runs.Scheduled.{IsScheduledRun, IsWholeRun};
@@ -62,6 +63,18 @@ pub fn one_stamp_order()
         IsStampOrder (rendezvous_run 3) order ↔ (order ≡ join_between) }
     ensures last { (order : List Event) →
         IsStampOrder (rendezvous_run 2) order ↔ (order ≡ join_last) }
+{}
+
+/// Of joins at one stamp that of the smaller channel comes first, and of ticks that of the smaller domain.
+pub fn smaller_number_comes_first()
+    ensures joins { (r : RunState) → stamp_of r (JoinOf 0 1) ≡ stamp_of r (JoinOf 1 0) →
+        IsBefore r (JoinOf 0 1) (JoinOf 1 0) }
+    ensures no_join { (r : RunState) → stamp_of r (JoinOf 0 1) ≡ stamp_of r (JoinOf 1 0) →
+        IsBefore r (JoinOf 1 0) (JoinOf 0 1) → ⊥ }
+    ensures ticks { (r : RunState) → stamp_of r (TickOf 0 1) ≡ stamp_of r (TickOf 1 0) →
+        IsBefore r (TickOf 0 1) (TickOf 1 0) }
+    ensures no_tick { (r : RunState) → stamp_of r (TickOf 0 1) ≡ stamp_of r (TickOf 1 0) →
+        IsBefore r (TickOf 1 0) (TickOf 0 1) → ⊥ }
 {}
 
 /// The first run has rounds that fit, in which the sender's offer stands until its recall finds the

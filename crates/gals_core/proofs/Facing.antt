@@ -165,23 +165,23 @@ joined_other system c v domain x ns nr =
     ∙ put_apart domain (sender_of p c) (with_join p c v domain (sender_of p c)) x ns
 
 abbrev pub raised_two : Setup → ℕ → ℕ → (ℕ → ℕ) → ℕ → ℕ
-raised_two p c s f = scheduled.raised (scheduled.raised f (sender_of p c) s) (receiver_of p c) s
+raised_two p c s f = scheduled.raised_at (scheduled.raised_at f (sender_of p c) s) (receiver_of p c) s
 
 pub raised_side : (system : System) (c s : ℕ) (f : ℕ → ℕ) → IsSystem (order_setup system) → c < channel_count (order_setup system) → (b : Side) →
     raised_two (order_setup system) c s f (domain_at (tables_of system) b c) ≡ max (f (domain_at (tables_of system) b c)) s
 raised_side system c s f sys less Sender =
     let p = order_setup system in
-    let mid = scheduled.raised f (sender_of p c) s in
+    let mid = scheduled.raised_at f (sender_of p c) s in
     put_apart mid (receiver_of p c) (max (mid (receiver_of p c)) s) (sender_of p c) (sys.apart c less) ∙ put_here f (sender_of p c) (max (f (sender_of p c)) s)
 raised_side system c s f sys less Receiver =
     let p = order_setup system in
-    let mid = scheduled.raised f (sender_of p c) s in
+    let mid = scheduled.raised_at f (sender_of p c) s in
     put_here mid (receiver_of p c) (max (mid (receiver_of p c)) s) ∙ ap (λ z. max z s) (put_apart f (sender_of p c) (max (f (sender_of p c)) s) (receiver_of p c) (λ q. sys.apart c less (sym q)))
 
 pub raised_other : (system : System) (c s : ℕ) (f : ℕ → ℕ) (x : ℕ) → x ≢ domain_at (tables_of system) Sender c → x ≢ domain_at (tables_of system) Receiver c → raised_two (order_setup system) c s f x ≡ f x
 raised_other system c s f x ns nr =
     let p = order_setup system in
-    let mid = scheduled.raised f (sender_of p c) s in
+    let mid = scheduled.raised_at f (sender_of p c) s in
     put_apart mid (receiver_of p c) (max (mid (receiver_of p c)) s) x nr ∙ put_apart f (sender_of p c) (max (f (sender_of p c)) s) x ns
 
 -- both ends wait where each does

@@ -20,7 +20,7 @@ use Rattle.domain_core.specs.declared.step.outcome.Stepped.{Stepped}
 use Rattle.domain_core.specs.definitions.step.EndCalls.{end_at, stands_after, recalls, offers}
 use Rattle.domain_core.specs.step.Answers.{raised, raised_by}
 use Rattle.domain_core.specs.definitions.step.Domains.{DomainView, ends_of, ends_in, tables_in, tick_count_of, state_of}
-use Rattle.domain_core.specs.definitions.step.Steps.{Waits, IsAsk, IsWaitingOffer, StandsAs, IsStep, MakesTick, FitsJoin, add_joins}
+use Rattle.domain_core.specs.definitions.step.Steps.{Waits, IsAsk, IsWaitingOffer, StandsAs, IsStep, TicksOnce, FitsJoin, add_joins}
 use Rattle.domain_core.specs.step.Answers.{with_answers, next_stamp, newest_of}
 use Rattle.domain_core.proofs.lemmas.step.StateAnswers.{length_joins, with_none}
 use Rattle.domain_core.proofs.lemmas.step.AnswersFound.{answers_found}
@@ -67,7 +67,7 @@ pub record OwnStep (system : System) (d : ℕ) (old new : DomainView) (before af
   pub of_domain : new.domain ≡ d
 
 pub own_step : (system : System) (d : ℕ) (old new : DomainView) (before after : ChannelsState) (result : Stepped) → IsInCells system d (cell_in before) old → before.ends ≡ ends_at system d →
-    (i : IsStep Moves no_inputs before after old new result) → MakesTick no_inputs old new i.answers i.replies i.asks i.stamp result → OwnStep system d old new before after
+    (i : IsStep Moves no_inputs before after old new result) → TicksOnce no_inputs old new i.answers i.replies i.asks i.stamp result → OwnStep system d old new before after
 own_step system d old new before after result h own i k =
     let E = ends_at system d in
     let to : (Q : System → ℕ → Type 0) → Q old.system old.domain → Q system d = at_own old system d h.of_system h.of_domain in

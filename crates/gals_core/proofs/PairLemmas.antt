@@ -1,5 +1,5 @@
 -- The pair of a send and a receive can be compiled.
-use Rattle.std.proofs.Common.{◌≡◌, zero, suc, ◌≤◌, List, length, get_or, map, refl, sym, ap, ◌∙◌, subst, arith}
+use Rattle.std.proofs.Common.{◌≡◌, zero, suc, List, length, get_or, map, refl, sym, ap, ◌∙◌, subst, arith}
 use Rattle.std.proofs.lemmas.Bool.{true≢false}
 use Rattle.kernel_terms.specs.declared.term.Term.{Term}
 use Rattle.kernel_terms.specs.declared.system.System.{System}
@@ -7,9 +7,9 @@ use Rattle.kernel_terms.specs.Systems.{domains_of}
 use Rattle.kernel_terms.specs.Statements.{statement}
 use Rattle.kernel_terms.specs.Statements as rules
 use Rattle.kernel_terms.specs.MayEnd.{LoopsWait}
-use Rattle.domain_core.specs.definitions.Rows.{IsPair, pure_domains}
+use Rattle.domain_core.specs.step.SmallDomains.{IsPair, pure_domains}
 use Rattle.domain_core.specs.definitions.runs.Systems.{source_of}
-use Rattle.domain_core.specs.definitions.step.Built.{is_built, size_of, most_size}
+use Rattle.domain_core.specs.definitions.step.Built.{is_built}
 use Rattle.domain_core.specs.definitions.step.PureSignals.{HasPureOutputs}
 use Rattle.domain_core.specs.definitions.step.Compiling.{CanCompile}
 use Rattle.domain_core.proofs.lemmas.equations.PairTerms.{sending, pair_can_compile}
@@ -30,7 +30,6 @@ pairs_can_compile system pair =
         built = λ t. ap (λ l. is_built (get_or l 0 t)) pair.domains ∙ pair.sends.built;
         loops = subst LoopsWait (sym source) (tt, tt);
         weight = rw source (omega arith);
-        size = subst (λ s. size_of s ≤ most_size) (sym source) (omega arith);
         pure = subst (λ t. HasPureOutputs t 0) (sym pair.tables) outputs;
       };
       receiving = pair_can_compile system pair;

@@ -5,7 +5,7 @@ ghost use Rattle.cell_core.specs.declared.moves.CellMove.TheVariants as moves;
 ghost use Rattle.cell_core.specs.Cells.{cell_step, cell_reply, empty_cell, standing_at, stands};
 ghost use Rattle.gals_core.specs.Channels.{link_at, with_reply, no_history, lists_in};
 ghost use Rattle.domain_core.specs.definitions.step.EndCalls.{end_at};
-ghost use Rattle.domain_core.specs.step.JoinLists.{HasStamps};
+ghost use Rattle.domain_core.specs.step.JoinLists.{StampsFit};
 
 use crate::links::{Link, open_links};
 use crate::opening::{open_cells, open_histories, open_lists};
@@ -88,7 +88,7 @@ fn add_reply(
     requires room { 1 ≤ (get_or histories.old.items channel no_history).room }
     requires sender { (link_at links.now.items channel).sender < length ticks.now.items }
     requires receiver { (link_at links.now.items channel).receiver < length ticks.now.items }
-    requires stamps { IfSome reply HasStamps }
+    requires stamps { IfSome reply StampsFit }
     ensures { histories.new.items ≡ with_reply links.now.items ticks.now.items channel reply histories.old.items }
 {
     if let Some(joined) = reply {

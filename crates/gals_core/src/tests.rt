@@ -3,7 +3,7 @@ ghost use Rattle.java_values.specs.declared.kind.Kind.TheVariants as kind;
 ghost use Rattle.kernel_terms.specs.Systems.{domains_of};
 ghost use Rattle.kernel_terms.specs.Statements as rules;
 ghost use Rattle.kernel_terms.specs.Expressions.{Literal};
-ghost use Rattle.domain_core.specs.definitions.Rows.{IsTermOf, IsPair, pure_domains};
+ghost use Rattle.domain_core.specs.step.SmallDomains.{IsTermOf, IsPair, pure_domains};
 ghost use Rattle.domain_core.specs.definitions.step.Compiling.{CanCompile};
 ghost use Rattle.gals_core.specs.definitions.OrderPlans.{FitBudgets};
 

@@ -1,5 +1,6 @@
 pub mod AnswerFacts
 pub mod AnswersFound
+pub mod AskPasses
 pub mod AtChannels
 pub mod Compilable
 pub mod CompileLists
@@ -7,6 +8,7 @@ pub mod Compiled
 pub mod DomainSteps
 pub mod EndCallLemmas
 pub mod JoinListLemmas
+pub mod JoinPasses
 pub mod LastValues
 pub mod OwnEnds
 pub mod PhaseStates

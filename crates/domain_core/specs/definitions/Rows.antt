@@ -1,15 +1,11 @@
--- One concrete run, in numbers.
-use Rattle.std.specs.Prelude.{◌≡◌, ℕ, ℤ, ◌==◌, ◌&&◌, ◌||◌, pos, true, false, cond, List, [], ◌∷◌, codes, get_or, Some, None}
+-- Small programs and their runs, in numbers.
+use Rattle.std.specs.Prelude.{ℕ, ℤ, ◌==◌, ◌&&◌, ◌||◌, pos, false, cond, List, [], ◌∷◌, codes, Some, None}
 use Rattle.java_values.specs.declared.kind.Kind.TheVariants as kind
 use Rattle.kernel_terms.specs.declared.tables.Tables.{Tables}
-use Rattle.kernel_terms.specs.declared.term.Term.{Term}
-use Rattle.kernel_terms.specs.declared.system.System.{System}
-use Rattle.kernel_terms.specs.Systems.{tables_of, domains_of}
-use Rattle.kernel_terms.specs.WellFormed.{has_parts}
 use Rattle.kernel_terms.specs.declared.tables.Sort.TheVariants as sort
 use Rattle.kernel_terms.specs.declared.tables.Combine.TheVariants as combine
 use Rattle.kernel_terms.specs.Expressions.{Literal, ChannelValue, IsPresent}
-use Rattle.kernel_terms.specs.Statements.{Stmt, Emit, Seq, Abort, Suspend, Send, Receive, statement}
+use Rattle.kernel_terms.specs.Statements.{Emit, Seq, Abort, Suspend, Send, Receive}
 use Rattle.cell_core.specs.declared.moves.Side.TheVariants.{Sender, Receiver}
 use Rattle.cell_core.specs.declared.moves.CellMove.TheVariants.{Offer, Recall}
 use Rattle.tick_log.specs.declared.history.JoinRow.{JoinRow}
@@ -17,8 +13,6 @@ use Rattle.tick_log.specs.definitions.Runs.{RunState}
 use Rattle.tick_log.specs.definitions.StampOrder.{Event, TickOf, JoinOf}
 use Rattle.kernel_terms.specs.Marks.{Mark, Going, Ended}
 use Rattle.domain_core.specs.definitions.runs.Systems.{Setup, Move, MakesTick}
-use Rattle.domain_core.specs.definitions.step.Built.{is_built}
-use Rattle.domain_core.specs.definitions.step.Domains.{DomainView, tables_in}
 use Rattle.domain_core.specs.definitions.rounds.Rounds.{Rounds, RoundsFit, NoneCut}
 use Rattle.domain_core.specs.definitions.rounds.Interleavings.{Action, MadeTick, MadeMove, IsInterleaving}
 
@@ -182,37 +176,3 @@ too_early = record { value = pos 7; sender_ticks = 1; receiver_ticks = 1; stamp 
 
 abbrev pub receiver_first : List ℕ
 receiver_first = 1 ∷ 1 ∷ 0 ∷ 1 ∷ 1 ∷ 0 ∷ []
-
--- the same tables, with a pure B
-abbrev pub pure_domains : Tables
-pure_domains = record {
-  signals =
-      record { name = codes "D"; domain = 0; sort = sort.Output; kind = None; combine = combine.Max } ∷
-      record { name = codes "B"; domain = 1; sort = sort.Output; kind = None; combine = combine.Max } ∷ [];
-  channels = record { name = codes "C"; kind = kind.Int; sender = 0; receiver = 1 } ∷ [];
-  variables = [];
-}
-
--- the term has built forms alone and is this statement, and its lists aren't empty
-pub record IsTermOf (p : Stmt) (t : Term) : Type 0 where
-  pub built : is_built t ≡ true
-  pub same : statement t ≡ p
-  pub parts : has_parts t ≡ true
-
--- `send C(5); emit D;` and `receive C; emit B;` over the pure tables
-pub record IsPair (system : System) : Type 0 where
-  pub tables : tables_of system ≡ pure_domains
-  pub sending : Term
-  pub receiving : Term
-  pub domains : domains_of system ≡ sending ∷ receiving ∷ []
-  pub sends : IsTermOf (Seq (Send 0 (Literal kind.Int (pos 5))) (Emit 0 None)) sending
-  pub receives : IsTermOf (Seq (Receive 0) (Emit 1 None)) receiving
-
--- the second domain of that program, with memory for two ticks, before its first
-pub record IsReceiving (v : DomainView) : Type 0 where
-  pub tables : tables_in v ≡ pure_domains
-  pub number : v.domain ≡ 1
-  pub going : v.log.mark ≡ Going
-  pub runs : v.stopped ≡ false
-  pub spare : v.spare ≡ 2
-  pub free : (n : ℕ) → get_or v.standing n false ≡ false

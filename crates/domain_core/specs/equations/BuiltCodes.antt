@@ -6,7 +6,7 @@ use Rattle.domain_core.specs.equations.Circuit.{Part, is_set, start, resume}
 use Rattle.domain_core.specs.declared.equations.circuit.Built.{Built}
 use Rattle.domain_core.specs.equations.BuiltForms.{Plain}
 use Rattle.domain_core.specs.equations.BuiltRegisters.{registers}
-use Rattle.std.specs.Prelude.{◌≡◌, ℕ, ◌+◌, ◌<◌, ◌≤◌, slice_index, slice_index_or, slice_set, ◌++◌, ℤ, pos, Bool, false, List, [], ◌∷◌, length}
+use Rattle.std.specs.Prelude.{◌≡◌, ℕ, ◌<◌, ◌≤◌, slice_index, slice_index_or, slice_set, ◌++◌, ℤ, pos, Bool, false, List, [], ◌∷◌, length}
 
 -- each pair has a number below the count and a wire below the limit
 abbrev pub Below : ℕ → ℕ → List (ℕ × ℕ) → Type 0
@@ -19,21 +19,20 @@ pub record Merges (old new : List Equation) (wires : List ℕ) (pairs : List (�
   pub ordered : IsOrdered 0 old → IsOrdered 0 new
   pub fits : (size : ℕ) → FitsFrame size old → FitsFrame size new
   pub grows : length old ≤ length new
-  pub room : length new ≤ length old + length pairs
   pub keeps : (frame values : List ℤ) → Satisfies new frame values → Satisfies old frame values
   pub size : length wires ≡ count
   pub wires_below : (n : ℕ) → n < count → slice_index wires n < length new
   pub tests : (n : ℕ) → n < count → (frame values : List ℤ) → Satisfies new frame values → is_on values 0 ≡ false → is_on values (slice_index wires n) ≡ is_set values pairs n
 
--- what the wires of a code tell of a part of its equations
-pub record Shows (code : List Equation) (present next : List ℕ) (end : ℕ) (head : List Equation) (part : Part) (signals count : ℕ) : Type 0 where
+-- what the wires of a code tell of a part of its equations, and of the signals of these numbers
+pub record Shows (code : List Equation) (present next : List ℕ) (end : ℕ) (head : List Equation) (part : Part) (own : List ℕ) (count : ℕ) : Type 0 where
   pub fits : FitsFrame count code
   pub keeps : (frame values : List ℤ) → Satisfies code frame values → Satisfies (head ++ part.equations) frame values
   pub done : end ≡ part.done
   pub end_below : end < length code
-  pub signal_count : length present ≡ signals
-  pub signals_below : (n : ℕ) → n < signals → slice_index present n < length code
-  pub emits : (n : ℕ) → n < signals → (frame values : List ℤ) → Satisfies code frame values → is_on values 0 ≡ false → is_on values (slice_index present n) ≡ is_set values part.emits n
+  pub signal_count : length present ≡ length own
+  pub signals_below : (n : ℕ) → n < length own → slice_index present n < length code
+  pub emits : (n : ℕ) → n < length own → (frame values : List ℤ) → Satisfies code frame values → is_on values 0 ≡ false → is_on values (slice_index present n) ≡ is_set values part.emits (slice_index own n)
   pub registers : length next ≡ count
   pub registers_below : (n : ℕ) → n < count → slice_index next n < length code
   pub sets : (n : ℕ) → n < count → (frame values : List ℤ) → Satisfies code frame values → is_on values 0 ≡ false → is_on values (slice_index next n) ≡ is_set values part.sets n
@@ -53,12 +52,12 @@ pub record Steps (code : List Equation) (present next : List ℕ) (end : ℕ) (o
   pub ends : ended ≡ is_on values end
 
 -- the code of the starting tick
-abbrev pub IsStarting : Built → Plain → ℕ → Type 0
-IsStarting built p signals = Shows built.code built.present.items built.next.items built.end head (start p 2 1 0) signals (registers p)
+abbrev pub IsStarting : Built → Plain → List ℕ → Type 0
+IsStarting built p own = Shows built.code built.present.items built.next.items built.end head (start p 2 1 0) own (registers p)
 
 -- the code of the resuming tick
-abbrev pub IsResuming : Built → Plain → ℕ → Type 0
-IsResuming built p signals = Shows built.code built.present.items built.next.items built.end head (resume p 2 0) signals (registers p)
+abbrev pub IsResuming : Built → Plain → List ℕ → Type 0
+IsResuming built p own = Shows built.code built.present.items built.next.items built.end head (resume p 2 0) own (registers p)
 
 -- a code that can step over so many registers and signals
 pub record CanStep (built : Built) (count signals : ℕ) : Type 0 where

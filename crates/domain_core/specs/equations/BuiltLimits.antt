@@ -1,9 +1,7 @@
 -- How large a built statement may be.
 use Rattle.std.specs.Prelude.{ℕ, ◌+◌, ◌<◌, ◌≤◌, cond}
 use Rattle.tick_tree.specs.definitions.Weight.{most_weight}
-use Rattle.domain_core.specs.definitions.step.Built as built
-use Rattle.domain_core.specs.definitions.step.Built.{most_size}
-use Rattle.domain_core.specs.equations.BuiltForms.{Plain, Nothing, Pause, Emit, Seq, Loop, Send, Receive, whole, ends0, ends1, LoopsWait}
+use Rattle.domain_core.specs.equations.BuiltForms.{Plain, Nothing, Pause, Emit, Seq, Loop, Send, Receive, ends0, ends1, LoopsWait}
 
 -- each emission names one of so many signals
 abbrev pub EmitsBelow : ℕ → Plain → Type 0
@@ -11,9 +9,6 @@ EmitsBelow signals (Emit s) = s < signals
 EmitsBelow signals (Seq p q) = EmitsBelow signals p × EmitsBelow signals q
 EmitsBelow signals (Loop p) = EmitsBelow signals p
 EmitsBelow signals _ = Unit {0}
-
-abbrev pub size_of : Plain → ℕ
-size_of p = built.size_of (whole p)
 
 -- How many copies of statements its starting tick may pass, and its resuming tick. A second part is
 -- started only where the first may end.
@@ -39,4 +34,3 @@ pub record CanBuild (signals : ℕ) (p : Plain) : Type 0 where
   pub waits : LoopsWait p
   pub emits : EmitsBelow signals p
   pub copies : copies_of p ≤ most_weight
-  pub size : size_of p ≤ most_size

@@ -1,6 +1,6 @@
 -- What the builder adds to its lists.
 use Rattle.std.specs.Prelude.{◌≡◌, ℕ, ◌+◌, Bool, true, false, List, [], ◌∷◌, ◌++◌, length}
-use Rattle.domain_core.specs.equations.BuiltForms.{Plain, Nothing, Pause, Emit, Seq, Loop, Send, Receive}
+use Rattle.domain_core.specs.equations.BuiltForms.{Plain}
 use Rattle.domain_core.specs.equations.BuiltForms.{ends0, ends1}
 use Rattle.domain_core.specs.declared.equations.builder.Parts.{Parts}
 use Rattle.tick_code.specs.declared.formula.Formula.TheVariants.{Or}
@@ -23,20 +23,6 @@ start_list (p ∷ ps) base go r =
 abbrev pub registers_of : List Plain → ℕ
 registers_of [] = 0
 registers_of (p ∷ ps) = registers p + registers_of ps
-
--- at most so many wires are given by a resuming copy
-abbrev pub gates : Plain → ℕ
-gates Nothing = 0
-gates Pause = 1
-gates (Emit s) = 0
-gates (Seq p q) = gates p + gates q + 1
-gates (Loop p) = gates p
-gates (Send c n) = 5
-gates (Receive c) = 5
-
-abbrev pub gates_of : List Plain → ℕ
-gates_of [] = 0
-gates_of (p ∷ ps) = gates p + gates_of ps + 1
 
 -- what a part's copy and the start of the parts after it add, where the parts after it end with the wire `done`
 abbrev pub before_if : Bool → ℕ → ℕ → Part → Part → Part

@@ -9,28 +9,28 @@ use Rattle.domain_core.specs.equations.BuiltRegisters.{registers, literals}
 
 -- The sends and receives of a statement from the left, in a domain with these ends. The statement's first register
 -- has number n.
-abbrev pub places_of : List EndOf → Plain → ℕ → List EndPlace
-places_of ends (Seq p q) n = places_of ends p n ++ places_of ends q (n + registers p)
-places_of ends (Loop p) n = places_of ends p n
-places_of ends (Send c v) n = record { which = end_number ends c; on = n; met = n + 1 } ∷ []
-places_of ends (Receive c) n = record { which = end_number ends c; on = n; met = n + 1 } ∷ []
-places_of ends _ n = []
+abbrev pub plain_places : List EndOf → Plain → ℕ → List EndPlace
+plain_places ends (Seq p q) n = plain_places ends p n ++ plain_places ends q (n + registers p)
+plain_places ends (Loop p) n = plain_places ends p n
+plain_places ends (Send c v) n = record { which = end_number ends c; on = n; met = n + 1 } ∷ []
+plain_places ends (Receive c) n = record { which = end_number ends c; on = n; met = n + 1 } ∷ []
+plain_places ends _ n = []
 
 -- new is old with those of the statement at its end
 pub record Finds (old new : Found) (ends : List EndOf) (p : Plain) (r : ℕ) : Type 0 where
-  pub places : new.places.items ≡ old.places.items ++ places_of ends p r
+  pub places : new.places.items ≡ old.places.items ++ plain_places ends p r
   pub literals : new.literals.items ≡ old.literals.items ++ literals p r
 
 -- the same of parts one after another
 
-abbrev pub places_of_all : List EndOf → List Plain → ℕ → List EndPlace
-places_of_all ends [] r = []
-places_of_all ends (p ∷ ps) r = places_of ends p r ++ places_of_all ends ps (r + registers p)
+abbrev pub all_plain_places : List EndOf → List Plain → ℕ → List EndPlace
+all_plain_places ends [] r = []
+all_plain_places ends (p ∷ ps) r = plain_places ends p r ++ all_plain_places ends ps (r + registers p)
 
 abbrev pub literals_of_all : List Plain → ℕ → List (ℕ × ℤ)
 literals_of_all [] r = []
 literals_of_all (p ∷ ps) r = literals p r ++ literals_of_all ps (r + registers p)
 
 pub record FindsAll (old new : Found) (ends : List EndOf) (ps : List Plain) (r : ℕ) : Type 0 where
-  pub places : new.places.items ≡ old.places.items ++ places_of_all ends ps r
+  pub places : new.places.items ≡ old.places.items ++ all_plain_places ends ps r
   pub literals : new.literals.items ≡ old.literals.items ++ literals_of_all ps r

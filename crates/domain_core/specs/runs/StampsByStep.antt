@@ -5,9 +5,9 @@ use Rattle.tick_log.specs.definitions.Runs.{RunState, tick_of, join_of}
 use Rattle.domain_core.specs.definitions.runs.Systems.{Setup, Move, MakesTick, MakesJoin, sender_of, receiver_of}
 use Rattle.domain_core.specs.definitions.runs.Stamps.{join_stamp}
 
--- f, where its number at d is raised to s
-abbrev pub raised : (ℕ → ℕ) → ℕ → ℕ → ℕ → ℕ
-raised f d s = put_at f d (max (f d) s)
+-- f, where its number at d is raised_at to s
+abbrev pub raised_at : (ℕ → ℕ) → ℕ → ℕ → ℕ → ℕ
+raised_at f d s = put_at f d (max (f d) s)
 
 -- a join's stamp, from the stamps of the last ticks
 abbrev pub stamp_by_step : Setup → (ℕ → ℕ) → ℕ → ℕ
@@ -23,4 +23,4 @@ StampsFrom setup r t j last since (MakesTick d statuses ∷ moves) =
 StampsFrom setup r t j last since (MakesJoin c join ∷ moves) =
     ((join_of r c (j c)).stamp ≡ stamp_by_step setup last c) ×
     StampsFrom setup r t (put_at j c (suc (j c))) last
-    (raised (raised since (sender_of setup c) (stamp_by_step setup last c)) (receiver_of setup c) (stamp_by_step setup last c)) moves
+    (raised_at (raised_at since (sender_of setup c) (stamp_by_step setup last c)) (receiver_of setup c) (stamp_by_step setup last c)) moves

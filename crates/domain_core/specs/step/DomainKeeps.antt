@@ -10,7 +10,7 @@ use Rattle.domain_core.specs.declared.step.parts.Program.{Program}
 use Rattle.domain_core.specs.declared.step.parts.State.{State}
 use Rattle.domain_core.specs.declared.step.parts.Scratch.{Scratch}
 use Rattle.domain_core.specs.equations.BuiltForms.{Plain, whole}
-use Rattle.domain_core.specs.equations.Places.{places_of}
+use Rattle.domain_core.specs.equations.Places.{plain_places}
 use Rattle.domain_core.specs.equations.Codes.{AreCodes}
 use Rattle.domain_core.specs.definitions.step.PureSignals.{HasPureOutputs}
 use Rattle.domain_core.specs.equations.SendsFit.{SendsFit}
@@ -25,24 +25,22 @@ use Rattle.domain_core.specs.step.StepParts.{PartsHold, FitsAfter}
 -- the program of a domain of the system
 pub record IsProgram (system : System) (d : ℕ) (program : Program) (source : Plain) : Type 0 where
   pub statement : source_of system d ≡ whole source
-  pub are : AreCodes program.codes source (length (tables_of system).signals)
+  pub are : AreCodes program.codes source (length (tables_of system).signals) (interface_of (tables_of system) d)
   pub ends : program.ends.items ≡ ends_of (tables_of system) d
-  pub places : program.codes.places.items ≡ places_of (ends_of (tables_of system) d) source 0
+  pub places : program.codes.places.items ≡ plain_places (ends_of (tables_of system) d) source 0
   pub last : program.last.items ≡ last_places (tables_of system) d (whole source)
-  pub signals : program.signals.items ≡ interface_of (tables_of system) d
   pub pure : HasPureOutputs (tables_of system) d
   pub sends : SendsFit (tables_of system) source
   pub has_ends : HasEnds (ends_of (tables_of system) d) source
 
 -- the memory for one step
-pub record HasScratch (program : Program) (scratch : Scratch) (signals : ℕ) : Type 0 where
+pub record HasScratch (program : Program) (scratch : Scratch) : Type 0 where
   pub answers : length scratch.answers.items ≡ length program.ends.items
   pub replies : length scratch.replies.items ≡ length program.ends.items
   pub asks : length scratch.asks.items ≡ length program.ends.items
   pub wires : length scratch.wires.items ≡ program.codes.wires
-  pub present : length scratch.present.items ≡ signals
-  pub shown : length scratch.shown.items ≡ length program.signals.items
-  pub zeros : scratch.zeros.items ≡ replicate (length program.signals.items) (pos 0)
+  pub present : length scratch.present.items ≡ program.codes.signals
+  pub zeros : scratch.zeros.items ≡ replicate program.codes.signals (pos 0)
 
 -- Ends stand only after a tick that paused, and wait then. The registers fit, and the stamps are those of the
 -- last tick and of the joins.
@@ -58,7 +56,7 @@ pub record IsState (program : Program) (source : Plain) (system : System) (d : �
 pub record Keeps (system : System) (d : ℕ) (program : Program) (state : State) (scratch : Scratch) (log : LogState) : Type 0 where
   pub source : Plain
   pub is_program : IsProgram system d program source
-  pub memory : HasScratch program scratch (length (tables_of system).signals)
+  pub memory : HasScratch program scratch
   pub is_state : IsState program source system d state (length log.entries) log.mark
   pub parts : PartsHold program state (length log.entries) log.room
-  pub log_signals : log.signals ≡ length program.signals.items
+  pub log_signals : log.signals ≡ program.codes.signals

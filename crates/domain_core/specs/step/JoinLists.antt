@@ -9,7 +9,7 @@ abbrev pub joins_in : List (Vec EndJoin Global) → List (List EndJoin)
 joins_in lists = map (λ (v : Vec EndJoin Global). v.items) lists
 
 -- both stamps are below 2^62
-pub record HasStamps (j : Joined) : Type 0 where
+pub record StampsFit (j : Joined) : Type 0 where
   pub mine : j.mine < 2 ^ 62
   pub theirs : j.theirs < 2 ^ 62
 

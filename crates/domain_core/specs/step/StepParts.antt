@@ -11,7 +11,7 @@ use Rattle.domain_core.specs.declared.step.parts.State.{State}
 use Rattle.domain_core.specs.equations.BuiltForms.{Plain, whole}
 use Rattle.domain_core.specs.equations.BuiltRegisters.{HoldsLiteral}
 use Rattle.domain_core.specs.equations.Codes.{AreCodes, TellsTick}
-use Rattle.domain_core.specs.step.EndPlaces.{PlacesFit, LastFits}
+use Rattle.domain_core.specs.step.EndPlaces.{PlacesFit, LastFits, HaveOwnRegisters}
 use Rattle.domain_core.specs.step.Answers.{raised}
 use Rattle.domain_core.specs.definitions.step.EndRegisters.{registers_joined}
 use Rattle.kernel_terms.specs.Marks.{Going}
@@ -28,8 +28,9 @@ pending false = 0
 pub record PartsHold (program : Program) (state : State) (ticks room : ℕ) : Type 0 where
   pub standing : length state.standing.items ≡ length program.ends.items
   pub lists : length state.joins.items ≡ length program.ends.items
-  pub places : PlacesFit program.codes.places.items (length state.registers.items)
+  pub places : PlacesFit program.codes.places.items (length program.ends.items) (length state.registers.items)
   pub last : LastFits program.last.items program.ends.items (length state.registers.items)
+  pub own : HaveOwnRegisters program.codes.places.items program.last.items
   pub counts : (k : ℕ) → k < length program.ends.items → length (joins_at (joins_in state.joins.items) k) + pending (get_or state.standing.items k false) ≤ ticks
   pub memory : (k : ℕ) (v : Vec EndJoin Global) → k < length program.ends.items → ticks + room ≤ vec_capacity (get_or state.joins.items k v)
   pub limit : state.cause ≤ 2 ^ 62
@@ -52,6 +53,6 @@ FitsAfter tables p zero r = Unit {0}
 FitsAfter tables p (suc n) r = FitRegisters tables (whole p) 0 r × HoldsLiteral p 0 r
 
 pub record MakesCodeTick (codes : Codes) (ticks : ℕ) (old new : ℕ → ℤ) (present : List Bool) (ended : Bool) : Type 0 where
-  pub tells : (tables : Tables) (p : Plain) → AreCodes codes p (length present) → FitsAfter tables p ticks old → TellsTick tables (whole p) (length present) (statement_held tables (whole p) ticks Going old) present new ended
-  pub literals : (tables : Tables) (p : Plain) → AreCodes codes p (length present) → FitsAfter tables p ticks old → HoldsLiteral p 0 new
+  pub tells : (tables : Tables) (p : Plain) (n : ℕ) (own : List ℕ) → AreCodes codes p n own → FitsAfter tables p ticks old → TellsTick tables (whole p) n own (statement_held tables (whole p) ticks Going old) present new ended
+  pub literals : (tables : Tables) (p : Plain) (n : ℕ) (own : List ℕ) → AreCodes codes p n own → FitsAfter tables p ticks old → HoldsLiteral p 0 new
   pub others : (k : ℕ) → codes.registers ≤ k → new k ≡ old k

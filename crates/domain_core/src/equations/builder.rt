@@ -1,11 +1,11 @@
 // The equations of a starting and of a resuming tick.
 
-ghost use Rattle.std.specs.Prelude.{◌≡◌, ◌+◌, ◌^◌, ◌<◌, ◌≤◌, ◌∷◌, ◌++◌, [], length, map, drop, slice_index_or, true, IfOk, OnOk};
+ghost use Rattle.std.specs.Prelude.{◌≡◌, ◌+◌, ◌^◌, ◌<◌, ◌≤◌, ◌∷◌, ◌++◌, [], length, map, drop, slice_index_or, true, IfOk, IsErr};
 ghost use Rattle.domain_core.specs.definitions.step.Built.{is_built, all_built};
 ghost use Rattle.domain_core.specs.equations.BuiltForms.{plain};
 ghost use Rattle.domain_core.specs.equations.BuiltRegisters.{registers};
 ghost use Rattle.domain_core.specs.equations.Circuit.{start, resume, waiting};
-ghost use Rattle.domain_core.specs.equations.CircuitLists.{Adds, start_list, registers_of, gates, gates_of, resume_list, resume_before};
+ghost use Rattle.domain_core.specs.equations.CircuitLists.{Adds, start_list, registers_of, resume_list, resume_before};
 
 use crate::equations::built_forms::{
     count, count_all, ends0, ends1, tell_body, tell_built, tell_first, tell_parts,
@@ -30,8 +30,7 @@ pub struct Parts {
 pub fn start(parts: &mut Parts, term: &Term, go: u32, register: u32) -> Result<u32, NoMemory>
     requires built { is_built term.now ≡ true }
     requires room { register + registers (plain term.now) < 2 ^ 32 }
-    ensures wires { OnOk result (length parts.new.equations.items ≡ length parts.old.equations.items) }
-    ensures adds { IfOk result (λ done. Adds parts.old parts.new (start (plain term.now) (length parts.old.equations.items) go register) done) }
+    ensures { IfOk result (λ done. Adds parts.old parts.new (start (plain term.now) (length parts.old.equations.items) go register) done) }
 {
     match &term.form {
         Form::Pause | Form::Send { .. } | Form::Receive { .. } => {
@@ -62,8 +61,7 @@ pub fn start(parts: &mut Parts, term: &Term, go: u32, register: u32) -> Result<u
 fn start_all(parts: &mut Parts, list: &[Term], go: u32, register: u32) -> Result<u32, NoMemory>
     requires built { all_built (map is_built list.now) ≡ true }
     requires room { register + registers_of (map plain list.now) < 2 ^ 32 }
-    ensures wires { OnOk result (length parts.new.equations.items ≡ length parts.old.equations.items) }
-    ensures adds { IfOk result (λ done. Adds parts.old parts.new (start_list (map plain list.now) (length parts.old.equations.items) go register) done) }
+    ensures { IfOk result (λ done. Adds parts.old parts.new (start_list (map plain list.now) (length parts.old.equations.items) go register) done) }
 {
     let mut done = go;
     let mut next = register;
@@ -78,15 +76,22 @@ fn start_all(parts: &mut Parts, list: &[Term], go: u32, register: u32) -> Result
     Ok(done)
 }
 
+/// The wire of the next equation, unless there are 2^32 already.
+pub fn next_wire(equations: &[Equation]) -> Result<u32, NoMemory>
+    ensures wire { IfOk result (λ wire. wire ≡ length equations.now) }
+    ensures full { IsErr result → 2 ^ 32 ≤ length equations.now }
+{
+    u32::try_from(equations.len()).map_err(|_| NoMemory)
+}
+
 // Adds an equation, and answers its wire.
 fn add(parts: &mut Parts, formula: Formula) -> Result<u32, NoMemory>
-    requires room { length parts.old.equations.items < 2 ^ 32 }
     ensures equations { IfOk result (λ wire. parts.new.equations.items ≡ parts.old.equations.items ++ record { wire = length parts.old.equations.items; formula = formula } ∷ []) }
     ensures sets { parts.new.sets.items ≡ parts.old.sets.items }
     ensures emits { parts.new.emits.items ≡ parts.old.emits.items }
     ensures wire { IfOk result (λ wire. wire ≡ length parts.old.equations.items) }
 {
-    let wire = parts.equations.len() as u32;
+    let wire = next_wire(&parts.equations)?;
     parts.equations.push(Equation { wire, formula })?;
     Ok(wire)
 }
@@ -94,9 +99,7 @@ fn add(parts: &mut Parts, formula: Formula) -> Result<u32, NoMemory>
 // Adds the resuming copy of a send or a receive.
 fn wait(parts: &mut Parts, register: u32) -> Result<u32, NoMemory>
     requires register { register + 1 < 2 ^ 32 }
-    requires room { length parts.old.equations.items + 5 < 2 ^ 32 }
-    ensures wires { OnOk result (length parts.new.equations.items ≡ length parts.old.equations.items + 5) }
-    ensures adds { IfOk result (λ done. Adds parts.old parts.new (waiting (length parts.old.equations.items) register) done) }
+    ensures { IfOk result (λ done. Adds parts.old parts.new (waiting (length parts.old.equations.items) register) done) }
 {
     let on = add(parts, Formula::Get(register))?;
     let met = add(parts, Formula::Get(register + 1))?;
@@ -114,9 +117,7 @@ fn wait(parts: &mut Parts, register: u32) -> Result<u32, NoMemory>
 pub fn resume(parts: &mut Parts, term: &Term, register: u32) -> Result<u32, NoMemory>
     requires built { is_built term.now ≡ true }
     requires registers { register + registers (plain term.now) < 2 ^ 32 }
-    requires gates { length parts.old.equations.items + gates (plain term.now) + 1 < 2 ^ 32 }
-    ensures wires { OnOk result (length parts.new.equations.items ≤ length parts.old.equations.items + gates (plain term.now)) }
-    ensures adds { IfOk result (λ done. Adds parts.old parts.new (resume (plain term.now) (length parts.old.equations.items) register) done) }
+    ensures { IfOk result (λ done. Adds parts.old parts.new (resume (plain term.now) (length parts.old.equations.items) register) done) }
 {
     match &term.form {
         Form::Pause => add(parts, Formula::Get(register)),
@@ -143,9 +144,7 @@ pub fn resume(parts: &mut Parts, term: &Term, register: u32) -> Result<u32, NoMe
 fn resume_all(parts: &mut Parts, list: &[Term], register: u32) -> Result<u32, NoMemory>
     requires built { all_built (map is_built list.now) ≡ true }
     requires registers { register + registers_of (map plain list.now) < 2 ^ 32 }
-    requires gates { length parts.old.equations.items + gates_of (map plain list.now) < 2 ^ 32 }
-    ensures wires { OnOk result (length parts.new.equations.items ≤ length parts.old.equations.items + gates_of (map plain list.now)) }
-    ensures adds { IfOk result (λ done. Adds parts.old parts.new (resume_list (map plain list.now) (length parts.old.equations.items) register) done) }
+    ensures { IfOk result (λ done. Adds parts.old parts.new (resume_list (map plain list.now) (length parts.old.equations.items) register) done) }
 {
     let mut done = 0;
     let mut next = register + count_all(list) as u32;
@@ -171,9 +170,7 @@ fn resume_part(
     requires built { is_built term.now ≡ true }
     requires after { all_built (map is_built after.now) ≡ true }
     requires registers { register + registers (plain term.now) + registers_of (map plain after.now) < 2 ^ 32 }
-    requires gates { length parts.old.equations.items + gates (plain term.now) + 1 < 2 ^ 32 }
-    ensures wires { OnOk result (length parts.new.equations.items ≤ length parts.old.equations.items + gates (plain term.now) + 1) }
-    ensures adds { IfOk result (λ end. Adds parts.old parts.new (resume_before (plain term.now) (map plain after.now) (length parts.old.equations.items) done register) end) }
+    ensures { IfOk result (λ end. Adds parts.old parts.new (resume_before (plain term.now) (map plain after.now) (length parts.old.equations.items) done register) end) }
 {
     let again = resume(parts, term, register)?;
     if after.is_empty() {

@@ -6,7 +6,7 @@ ghost use Rattle.tick_tree.specs.definitions.Exits.{exits_fit};
 ghost use Rattle.domain_core.specs.definitions.step.Built.{is_built, all_built};
 ghost use Rattle.domain_core.specs.equations.BuiltForms.{plain, whole, ends0, ends1};
 ghost use Rattle.domain_core.specs.equations.BuiltRegisters.{registers};
-ghost use Rattle.domain_core.specs.equations.CircuitLists.{registers_of, gates, gates_of};
+ghost use Rattle.domain_core.specs.equations.CircuitLists.{registers_of};
 
 use kernel_terms::{Form, Term};
 
@@ -15,7 +15,6 @@ use kernel_terms::{Form, Term};
 pub fn tell_parts(term: &Term, parts: &[Term])
     requires { term.now.form ≡ Form.Seq parts.now }
     ensures registers { registers (plain term.now) ≡ registers_of (map plain parts.now) }
-    ensures gates { gates_of (map plain parts.now) ≤ gates (plain term.now) + 1 }
     ensures built { is_built term.now ≡ true → all_built (map is_built parts.now) ≡ true }
 {}
 
@@ -27,7 +26,6 @@ pub fn tell_first(list: &[Term], i: usize, part: &Term, after: &[Term])
     requires after { after.now ≡ drop (i + 1) list.now }
     ensures parts { map plain (drop i list.now) ≡ plain part.now ∷ map plain after.now }
     ensures registers { registers_of (map plain (drop i list.now)) ≤ registers_of (map plain list.now) }
-    ensures gates { gates_of (map plain (drop i list.now)) ≤ gates_of (map plain list.now) }
     ensures built { all_built (map is_built list.now) ≡ true → is_built part.now ≡ true }
     ensures after { all_built (map is_built list.now) ≡ true → all_built (map is_built after.now) ≡ true }
 {}

@@ -1,11 +1,12 @@
 // The code of a starting or a resuming tick, the wires that tell it, and one step of it.
 
-ghost use Rattle.std.specs.Prelude.{◌≡◌, ◌+◌, ◌^◌, ◌<◌, ◌≤◌, ◌++◌, ℕ, length, take, IfOk, slice_index};
+ghost use Rattle.std.specs.Prelude.{◌≡◌, ◌<◌, ◌++◌, ℕ, length, map, IfOk, slice_index};
+ghost use Rattle.std.specs.List.{All};
 ghost use Rattle.tick_code.specs.Formulas.{IsOrdered, FitsFrame};
 ghost use Rattle.domain_core.specs.equations.Circuit.{Part};
 ghost use Rattle.domain_core.specs.equations.BuiltCodes.{Below, Merges, Shows, Steps, CanStep, head};
 
-use crate::equations::builder::Parts;
+use crate::equations::builder::{Parts, next_wire};
 use java_values::NoMemory;
 use std::alloc::Global;
 use tick_code::{Code, Equation, Formula};
@@ -21,13 +22,12 @@ fn merge(
 ) -> Result<Vec<u32>, NoMemory>
     requires some { 0 < length equations.old.items }
     requires below { Below count (length equations.old.items) pairs.now }
-    requires room { length equations.old.items + length pairs.now < 2 ^ 32 }
     ensures { IfOk result (λ wires. Merges equations.old.items equations.new.items wires.items pairs.now count) }
 {
     let mut wires = vec![in alloc; 0u32; count as usize]?;
     for pair in pairs {
         let number = pair.0 as usize;
-        let wire = equations.len() as u32;
+        let wire = next_wire(equations)?;
         equations.push(Equation {
             wire,
             formula: Formula::Or(wires[number], pair.1),
@@ -37,8 +37,21 @@ fn merge(
     Ok(wires)
 }
 
-/// The code of a tick, and the wires that tell which signals are present, the next registers, and
-/// whether the domain ends.
+// The wires of these numbers.
+#[tactic(auto, using(crate::proofs::lemmas::equations::CircuitMerging::picking_steps))]
+fn pick(alloc: Global, wires: &[u32], numbers: &[u32]) -> Result<Vec<u32>, NoMemory>
+    requires { All (λ (n : ℕ). n < length wires.now) numbers.now }
+    ensures { IfOk result (λ v. v.items ≡ map (slice_index wires.now) numbers.now) }
+{
+    let mut picked = Vec::new(alloc);
+    for number in numbers {
+        picked.push(wires[*number as usize])?;
+    }
+    Ok(picked)
+}
+
+/// The code of a tick, and the wires that tell which of the domain's own signals are present, the
+/// next registers, and whether the domain ends.
 #[derive(Drop)]
 pub struct Built {
     code: Code,
@@ -47,30 +60,33 @@ pub struct Built {
     end: u32,
 }
 
-/// The code of these parts, whose end the wire `end` tells.
+/// The code of these parts, whose end the wire `end` tells. Of so many signals it tells those of the
+/// numbers `own`.
 pub fn finish(
     alloc: Global,
     parts: Parts,
     end: u32,
     signals: u32,
+    own: &[u32],
     count: u32,
 ) -> Result<Built, NoMemory>
     requires some { 0 < length parts.equations.items }
     requires end { end < length parts.equations.items }
     requires emits { Below signals (length parts.equations.items) parts.emits.items }
+    requires own { All (λ (s : ℕ). s < signals) own.now }
     requires sets { Below count (length parts.equations.items) parts.sets.items }
     requires fits { FitsFrame count parts.equations.items }
     requires ordered { IsOrdered 0 parts.equations.items }
-    requires room { length parts.equations.items + length parts.emits.items + length parts.sets.items < 2 ^ 32 }
-    ensures { IfOk result (λ built. (part : Part) → head ++ part.equations ≡ parts.equations.items → part.done ≡ end → part.sets ≡ parts.sets.items → part.emits ≡ parts.emits.items → Shows built.code built.present.items built.next.items built.end head part signals count) }
+    ensures { IfOk result (λ built. (part : Part) → head ++ part.equations ≡ parts.equations.items → part.done ≡ end → part.sets ≡ parts.sets.items → part.emits ≡ parts.emits.items → Shows built.code built.present.items built.next.items built.end head part own.now count) }
 {
     let Parts {
         mut equations,
         sets,
         emits,
     } = parts;
-    let present = merge(alloc, &mut equations, &emits, signals)?;
+    let emitted = merge(alloc, &mut equations, &emits, signals)?;
     let next = merge(alloc, &mut equations, &sets, count)?;
+    let present = pick(alloc, &emitted, own)?;
     match Code::new(equations) {
         Some(code) => Ok(Built {
             code,
@@ -82,8 +98,8 @@ pub fn finish(
     }
 }
 
-/// Solves the equations over the registers, and reads off which signals are present, what the
-/// statement's registers are next, and whether the domain ends. Registers past those stay.
+/// Solves the equations over the registers, and reads off which of the own signals are present, what
+/// the statement's registers are next, and whether the domain ends. Registers past those stay.
 pub fn step(built: &Built, registers: &mut [i64], wires: &mut [i64], present: &mut [bool]) -> bool
     requires can { CanStep built.now (length registers.old) (length present.old) }
     requires wires { length wires.old ≡ length built.now.code }

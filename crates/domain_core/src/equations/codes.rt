@@ -1,6 +1,7 @@
 // The codes of a domain's starting and resuming ticks.
 
-ghost use Rattle.std.specs.Prelude.{◌≡◌, ◌+◌, ◌^◌, ◌<◌, ◌≤◌, ℕ, IfOk, [], pos, length, get_or, true};
+ghost use Rattle.std.specs.Prelude.{◌≡◌, ◌^◌, ◌<◌, ◌≤◌, ℕ, IfOk, List, [], pos, length, get_or, true};
+ghost use Rattle.std.specs.List.{All};
 ghost use Rattle.kernel_terms.specs.declared.tables.Tables.{Tables};
 ghost use Rattle.kernel_terms.specs.Statements.{Stmt, statement};
 ghost use Rattle.kernel_rules.specs.definitions.Registers.{FitRegisters, residual};
@@ -10,7 +11,7 @@ ghost use Rattle.domain_core.specs.equations.BuiltRegisters.{registers, HoldsLit
 ghost use Rattle.domain_core.specs.equations.BuiltLimits.{CanBuild};
 ghost use Rattle.domain_core.specs.equations.BuiltCodes.{IsStarting, IsResuming, CanStep, AreBelow, StepsOn, written, head};
 ghost use Rattle.domain_core.specs.equations.Codes.{AreCodes, AreSome, TellsTick};
-ghost use Rattle.domain_core.specs.equations.Places.{places_of};
+ghost use Rattle.domain_core.specs.equations.Places.{plain_places};
 
 use crate::equations::builder::{Parts, resume, start};
 use crate::equations::built_forms::count;
@@ -44,28 +45,42 @@ fn begin(alloc: Global) -> Result<Parts, NoMemory>
     })
 }
 
-#[tactic(auto, using(crate::proofs::lemmas::equations::CircuitStarts::few))]
-fn starting(alloc: Global, term: &Term, signals: u32, count: u32) -> Result<Built, NoMemory>
+#[tactic(auto, using(crate::proofs::lemmas::equations::CircuitStarts::few_registers))]
+fn starting(
+    alloc: Global,
+    term: &Term,
+    signals: u32,
+    own: &[u32],
+    count: u32,
+) -> Result<Built, NoMemory>
     requires count { count ≡ registers (plain term.now) }
     requires built { is_built term.now ≡ true }
     requires can { CanBuild signals (plain term.now) }
-    ensures { IfOk result (λ built. IsStarting built (plain term.now) signals) }
+    requires own { All (λ (s : ℕ). s < signals) own.now }
+    ensures { IfOk result (λ built. IsStarting built (plain term.now) own.now) }
 {
     let mut parts = begin(alloc)?;
     let end = start(&mut parts, term, 1, 0)?;
-    finish(alloc, parts, end, signals, count)
+    finish(alloc, parts, end, signals, own, count)
 }
 
-#[tactic(auto, using(crate::proofs::lemmas::equations::CircuitStarts::few))]
-fn resuming(alloc: Global, term: &Term, signals: u32, count: u32) -> Result<Built, NoMemory>
+#[tactic(auto, using(crate::proofs::lemmas::equations::CircuitStarts::few_registers))]
+fn resuming(
+    alloc: Global,
+    term: &Term,
+    signals: u32,
+    own: &[u32],
+    count: u32,
+) -> Result<Built, NoMemory>
     requires count { count ≡ registers (plain term.now) }
     requires built { is_built term.now ≡ true }
     requires can { CanBuild signals (plain term.now) }
-    ensures { IfOk result (λ built. IsResuming built (plain term.now) signals) }
+    requires own { All (λ (s : ℕ). s < signals) own.now }
+    ensures { IfOk result (λ built. IsResuming built (plain term.now) own.now) }
 {
     let mut parts = begin(alloc)?;
     let end = resume(&mut parts, term, 0)?;
-    finish(alloc, parts, end, signals, count)
+    finish(alloc, parts, end, signals, own, count)
 }
 
 // Writes the literals of the sends.
@@ -114,20 +129,28 @@ pub struct Codes {
 }
 
 impl Codes {
-    /// The codes of a statement of the built forms over so many signals, in a domain with these ends.
+    /// The codes of a statement of the built forms over so many signals, in a domain with these ends,
+    /// to which the signals of the numbers `own` belong.
     #[tactic(auto, using(crate::proofs::lemmas::equations::BuiltTrees::built_stands))]
-    pub fn new(alloc: Global, term: &Term, ends: &[EndOf], signals: u32) -> Result<Codes, NoMemory>
+    pub fn new(
+        alloc: Global,
+        term: &Term,
+        ends: &[EndOf],
+        signals: u32,
+        own: &[u32],
+    ) -> Result<Codes, NoMemory>
         requires ends { length ends.now < 2 ^ 32 }
         requires built { is_built term.now ≡ true }
         requires can { CanBuild signals (plain term.now) }
+        requires own { All (λ (s : ℕ). s < signals) own.now }
         ensures stands { statement term.now ≡ whole (plain term.now) }
-        ensures codes { IfOk result (λ c. AreCodes c (plain term.now) signals) }
+        ensures codes { IfOk result (λ c. AreCodes c (plain term.now) signals own.now) }
         ensures few { IfOk result (λ c. c.registers < 2 ^ 31) }
-        ensures places { IfOk result (λ c. c.places.items ≡ places_of ends.now (plain term.now) 0) }
+        ensures places { IfOk result (λ c. c.places.items ≡ plain_places ends.now (plain term.now) 0) }
     {
         let count = count(term) as u32;
-        let starting = starting(alloc, term, signals, count)?;
-        let resuming = resuming(alloc, term, signals, count)?;
+        let starting = starting(alloc, term, signals, own, count)?;
+        let resuming = resuming(alloc, term, signals, own, count)?;
         let mut found = Found {
             places: Vec::new(alloc),
             literals: Vec::new(alloc),
@@ -141,7 +164,7 @@ impl Codes {
             places,
             literals,
             registers: count as usize,
-            signals: signals as usize,
+            signals: own.len(),
             wires,
         })
     }
@@ -160,6 +183,13 @@ impl Codes {
         self.registers
     }
 
+    /// How many own signals the domain has.
+    pub fn signal_count(&self) -> usize
+        ensures { result ≡ self.now.signals }
+    {
+        self.signals
+    }
+
     /// How many wires a tick needs.
     pub fn wire_count(&self) -> usize
         ensures { result ≡ self.now.wires }
@@ -167,7 +197,7 @@ impl Codes {
         self.wires
     }
 
-    /// The starting tick: writes which signals are present and the statement's registers after it,
+    /// The starting tick: writes which own signals are present and the statement's registers after it,
     /// which are the first ones, and tells whether the domain ends. It takes no memory.
     pub fn start(
         &self,
@@ -179,8 +209,8 @@ impl Codes {
         requires registers { self.now.registers ≤ length registers.old.items }
         requires wires { length wires.old.items ≡ self.now.wires }
         requires present { length present.old.items ≡ self.now.signals }
-        ensures tells { (tables : Tables) (p : Plain) → AreCodes self.now p (length present.old.items) → TellsTick tables (whole p) (length present.old.items) (whole p) present.new.items (λ k. get_or registers.new.items k (pos 0)) result }
-        ensures literals { (p : Plain) → AreCodes self.now p (length present.old.items) → HoldsLiteral p 0 (λ k. get_or registers.new.items k (pos 0)) }
+        ensures tells { (tables : Tables) (p : Plain) (n : ℕ) (own : List ℕ) → AreCodes self.now p n own → TellsTick tables (whole p) n own (whole p) present.new.items (λ k. get_or registers.new.items k (pos 0)) result }
+        ensures literals { (p : Plain) (n : ℕ) (own : List ℕ) → AreCodes self.now p n own → HoldsLiteral p 0 (λ k. get_or registers.new.items k (pos 0)) }
         ensures others { (k : ℕ) → self.now.registers ≤ k → get_or registers.new.items k (pos 0) ≡ get_or registers.old.items k (pos 0) }
         ensures registers { length registers.new.items ≡ length registers.old.items }
         ensures wires { length wires.new.items ≡ length wires.old.items }
@@ -201,8 +231,8 @@ impl Codes {
         requires registers { self.now.registers ≤ length registers.old.items }
         requires wires { length wires.old.items ≡ self.now.wires }
         requires present { length present.old.items ≡ self.now.signals }
-        ensures tells { (tables : Tables) (p : Plain) → AreCodes self.now p (length present.old.items) → FitRegisters tables (whole p) 0 (λ k. get_or registers.old.items k (pos 0)) → HoldsLiteral p 0 (λ k. get_or registers.old.items k (pos 0)) → TellsTick tables (whole p) (length present.old.items) (residual tables (whole p) 0 (λ k. get_or registers.old.items k (pos 0))) present.new.items (λ k. get_or registers.new.items k (pos 0)) result }
-        ensures literals { (tables : Tables) (p : Plain) → AreCodes self.now p (length present.old.items) → FitRegisters tables (whole p) 0 (λ k. get_or registers.old.items k (pos 0)) → HoldsLiteral p 0 (λ k. get_or registers.old.items k (pos 0)) → HoldsLiteral p 0 (λ k. get_or registers.new.items k (pos 0)) }
+        ensures tells { (tables : Tables) (p : Plain) (n : ℕ) (own : List ℕ) → AreCodes self.now p n own → FitRegisters tables (whole p) 0 (λ k. get_or registers.old.items k (pos 0)) → HoldsLiteral p 0 (λ k. get_or registers.old.items k (pos 0)) → TellsTick tables (whole p) n own (residual tables (whole p) 0 (λ k. get_or registers.old.items k (pos 0))) present.new.items (λ k. get_or registers.new.items k (pos 0)) result }
+        ensures literals { (tables : Tables) (p : Plain) (n : ℕ) (own : List ℕ) → AreCodes self.now p n own → FitRegisters tables (whole p) 0 (λ k. get_or registers.old.items k (pos 0)) → HoldsLiteral p 0 (λ k. get_or registers.old.items k (pos 0)) → HoldsLiteral p 0 (λ k. get_or registers.new.items k (pos 0)) }
         ensures others { (k : ℕ) → self.now.registers ≤ k → get_or registers.new.items k (pos 0) ≡ get_or registers.old.items k (pos 0) }
         ensures registers { length registers.new.items ≡ length registers.old.items }
         ensures wires { length wires.new.items ≡ length wires.old.items }

@@ -21,10 +21,10 @@ fn endings(alloc: Global, term: &Term, signals: u32) -> Result<[bool; 3], NoMemo
     requires built { is_built term.now ≡ true }
     requires can { CanBuild signals (plain term.now) }
 {
-    let codes = Codes::new(alloc, term, &[], signals)?;
+    let codes = Codes::new(alloc, term, &[], signals, &[])?;
     let mut registers = vec![in alloc; 0i64; codes.register_count()]?;
     let mut wires = vec![in alloc; 0i64; codes.wire_count()]?;
-    let mut present = vec![in alloc; false; signals as usize]?;
+    let mut present = vec![in alloc; false; codes.signal_count()]?;
     let first = codes.start(&mut registers, &mut wires, &mut present);
     let second = codes.resume(&mut registers, &mut wires, &mut present);
     for place in codes.places() {

@@ -8,7 +8,7 @@ ghost use Rattle.domain_core.specs.definitions.runs.Systems.{setup_of};
 ghost use Rattle.domain_core.specs.definitions.rounds.Rounds.{Rounds, no_rounds};
 ghost use Rattle.domain_core.specs.definitions.step.Compiling.{IsCompiled};
 ghost use Rattle.domain_core.specs.definitions.step.Domains.{DomainView};
-ghost use Rattle.domain_core.specs.definitions.step.Steps.{IsStep, MakesTick, Stops};
+ghost use Rattle.domain_core.specs.definitions.step.Steps.{IsStep, TicksOnce, Stops};
 ghost use Rattle.domain_core.specs.definitions.step.RoundsOf.{AreRoundsOf, MadeRound, MadeCut};
 ghost use Rattle.domain_core.specs.definitions.step.RoundsOf.{with_memory};
 
@@ -30,7 +30,7 @@ pub fn steps_are_rounds<E: Ends>()
     ensures ticks { (system : System) (inputs : Inputs) (d : ℕ) (before after : E)
         (old new : DomainView) (result : Stepped) (x : Rounds) → AreRoundsOf system inputs d old x →
         (i : IsStep E.moved inputs before after old new result) →
-        MakesTick inputs old new i.answers i.replies i.asks i.stamp result →
+        TicksOnce inputs old new i.answers i.replies i.asks i.stamp result →
         MadeRound system inputs d old new x i.answers i.replies i.asks i.stamp }
     ensures stops { (system : System) (inputs : Inputs) (d : ℕ) (before after : E)
         (old new : DomainView) (result : Stepped) (x : Rounds) → AreRoundsOf system inputs d old x →

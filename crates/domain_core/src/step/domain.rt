@@ -20,7 +20,7 @@ use crate::step::opening::{
 };
 use crate::step::outcome::Stepped;
 use crate::step::parts::{
-    Program, Scratch, State, ask, offer_phase, pick, recall_phase, stand_none, tick,
+    Program, Scratch, State, ask, offer_phase, recall_phase, stand_none, tick,
 };
 use cell_core::Ends;
 use java_values::NoMemory;
@@ -102,7 +102,8 @@ pub fn compile(alloc: Global, system: &System, domain: u32) -> Result<Domain, Co
     let term = &terms[domain as usize];
     tell_can(system, term, domain);
     let ends = list_ends(alloc, tables.channels.as_slice(), domain)?;
-    let codes = Codes::new(alloc, term, &ends, signals.len() as u32)?;
+    let own = list_signals(alloc, signals, domain)?;
+    let codes = Codes::new(alloc, term, &ends, signals.len() as u32, &own)?;
     let values = count_variables(tables, domain) + count_values(tables, domain);
     let first = codes.register_count() + values;
     let received = count_received(tables, domain);
@@ -110,11 +111,10 @@ pub fn compile(alloc: Global, system: &System, domain: u32) -> Result<Domain, Co
         codes,
         ends,
         last: numbers_from(alloc, first as u32, received as u32)?,
-        signals: list_signals(alloc, signals, domain)?,
     };
     let state = open_state(alloc, first + received, program.ends.len())?;
-    let scratch = open_scratch(alloc, &program, signals.len())?;
-    let log = Log::open(alloc, program.signals.len() as u32, 0)?;
+    let scratch = open_scratch(alloc, &program)?;
+    let log = Log::open(alloc, own.len() as u32, 0)?;
     Ok(Domain {
         program,
         state,
@@ -227,13 +227,8 @@ impl Domain {
             &mut self.scratch.present,
             ticks,
         );
-        pick(
-            &self.scratch.present,
-            &self.program.signals,
-            &mut self.scratch.shown,
-        );
         self.log
-            .push(stamp, &self.scratch.shown, &self.scratch.zeros, ended);
+            .push(stamp, &self.scratch.present, &self.scratch.zeros, ended);
         self.state.stamp = stamp;
         self.state.cause = stamp;
         ask(

@@ -6,7 +6,7 @@ ghost use Rattle.kernel_terms.specs.Statements.{Stmt};
 ghost use Rattle.kernel_terms.specs.Statements as rules;
 ghost use Rattle.domain_core.specs.definitions.step.Compiling.{CanCompile};
 ghost use Rattle.domain_core.specs.definitions.step.Domains.{ends_in};
-ghost use Rattle.domain_core.specs.definitions.Rows.{IsTermOf, IsPair, IsReceiving, pure_domains};
+ghost use Rattle.domain_core.specs.step.SmallDomains.{IsTermOf, IsPair, IsReceiving, pure_domains};
 
 use crate::{CompileError, Domain, EndJoin, Stepped, compile};
 use cell_core::{Ends, Joined};

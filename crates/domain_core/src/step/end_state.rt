@@ -5,35 +5,35 @@ ghost use Rattle.cell_core.specs.declared.moves.Side.TheVariants.{Receiver};
 ghost use Rattle.kernel_rules.specs.definitions.Signals.{put_at};
 ghost use Rattle.java_values.specs.Arithmetic.{is_true};
 ghost use Rattle.domain_core.specs.definitions.step.EndCalls.{end_at, stands_after};
-ghost use Rattle.domain_core.specs.definitions.step.EndRegisters.{met_at, met, joined_at, registers_joined, receivers_before};
+ghost use Rattle.domain_core.specs.definitions.step.EndRegisters.{registers_joined, receivers_before};
 ghost use Rattle.domain_core.specs.step.Answers.{raised, raised_by};
-ghost use Rattle.domain_core.specs.step.EndPlaces.{ask_of, waits_at, value_at, PlaceFits, PlacesFit, LastFits};
+ghost use Rattle.domain_core.specs.step.EndPlaces.{ask_of, asked_at, first_of, is_waiting, value_at, is_joined, met_where_at, met_where, kept_at, kept, PlaceFits, PlacesFit, LastFits, HaveOwnRegisters};
 ghost use Rattle.domain_core.specs.definitions.step.Domains.{register_at, is_receiver};
-ghost use Rattle.domain_core.specs.step.JoinLists.{HasStamps};
+ghost use Rattle.domain_core.specs.step.JoinLists.{StampsFit};
 
 use crate::step::ends_of::EndOf;
 use cell_core::{Joined, Side};
 use tick_code::EndPlace;
 
-// Sets `met` at the place, if it is one of the end and is on.
-fn meet_at(end: usize, place: EndPlace, registers: &mut Vec<i64>)
-    requires { PlaceFits (length registers.old.items) place }
-    ensures registers { register_at registers.new.items ≡ met_at end place (register_at registers.old.items) }
+// Sets `met` at the place, if it is on and a join was answered at its end.
+fn meet_at(place: EndPlace, answers: &[Option<Joined>], registers: &mut Vec<i64>)
+    requires { PlaceFits (length answers.now) (length registers.old.items) place }
+    ensures registers { register_at registers.new.items ≡ met_where_at (is_joined answers.now) place (register_at registers.old.items) }
     ensures len { length registers.new.items ≡ length registers.old.items }
 {
-    if place.which as usize == end && registers[place.on as usize] != 0 {
+    if answers[place.which as usize].is_some() && registers[place.on as usize] != 0 {
         registers[place.met as usize] = 1;
     }
 }
 
-// Sets `met` at each place of the end that is on.
-fn meet(end: usize, places: &[EndPlace], registers: &mut Vec<i64>)
-    requires { PlacesFit places.now (length registers.old.items) }
-    ensures registers { register_at registers.new.items ≡ met places.now end (register_at registers.old.items) }
+// Sets `met` at each place that is on and at whose end a join was answered.
+fn meet_all(places: &[EndPlace], answers: &[Option<Joined>], registers: &mut Vec<i64>)
+    requires { PlacesFit places.now (length answers.now) (length registers.old.items) }
+    ensures registers { register_at registers.new.items ≡ met_where (is_joined answers.now) places.now (register_at registers.old.items) }
     ensures len { length registers.new.items ≡ length registers.old.items }
 {
     for place in places {
-        meet_at(end, *place, registers);
+        meet_at(*place, answers, registers);
     }
 }
 
@@ -49,9 +49,8 @@ fn keep_value(end: EndOf, last: &[u32], number: usize, value: i64, registers: &m
     }
 }
 
-// What a join that was answered at an end completes there, where so many of the ends before it receive.
-fn join_at(
-    places: &[EndPlace],
+// Keeps the value of a join that was answered at an end, where so many of the ends before it receive.
+fn keep_at(
     last: &[u32],
     list: &[EndOf],
     at: usize,
@@ -61,13 +60,11 @@ fn join_at(
 )
     requires within { at < length list.now }
     requires before { before ≡ receivers_before list.now at }
-    requires places { PlacesFit places.now (length registers.old.items) }
     requires last { LastFits last.now list.now (length registers.old.items) }
-    ensures registers { register_at registers.new.items ≡ joined_at places.now last.now list.now at answer (register_at registers.old.items) }
+    ensures registers { register_at registers.new.items ≡ kept_at list.now last.now at answer (register_at registers.old.items) }
     ensures len { length registers.new.items ≡ length registers.old.items }
 {
     if let Some(joined) = answer {
-        meet(at, places, registers);
         keep_value(list[at], last, before, joined.value, registers);
     }
 }
@@ -83,8 +80,23 @@ fn count_receiver(end: EndOf, count: usize) -> usize
     }
 }
 
+// Keeps the values of the joins that were answered at receivers.
+fn keep_all(last: &[u32], list: &[EndOf], answers: &[Option<Joined>], registers: &mut Vec<i64>)
+    requires last { LastFits last.now list.now (length registers.old.items) }
+    requires answers { length answers.now ≡ length list.now }
+    ensures registers { register_at registers.new.items ≡ kept list.now last.now answers.now (length list.now) (register_at registers.old.items) }
+    ensures len { length registers.new.items ≡ length registers.old.items }
+{
+    let mut before = 0;
+    for at in 0..list.len() {
+        keep_at(last, list, at, before, answers[at], registers);
+        before = count_receiver(list[at], before);
+    }
+}
+
 /// Completes each end at which a join was answered: `met` is set at its places that are on, and a
 /// receiver's last value is the joined one.
+#[tactic(auto, using(crate::proofs::lemmas::step::JoinPasses::joins_in_passes))]
 pub fn join_all(
     places: &[EndPlace],
     last: &[u32],
@@ -92,60 +104,32 @@ pub fn join_all(
     answers: &[Option<Joined>],
     registers: &mut Vec<i64>,
 )
-    requires places { PlacesFit places.now (length registers.old.items) }
+    requires places { PlacesFit places.now (length list.now) (length registers.old.items) }
     requires last { LastFits last.now list.now (length registers.old.items) }
+    requires own { HaveOwnRegisters places.now last.now }
     requires answers { length answers.now ≡ length list.now }
     ensures registers { register_at registers.new.items ≡ registers_joined places.now last.now list.now answers.now (length list.now) (register_at registers.old.items) }
     ensures len { length registers.new.items ≡ length registers.old.items }
 {
-    let mut before = 0;
-    for at in 0..list.len() {
-        join_at(places, last, list, at, before, answers[at], registers);
-        before = count_receiver(list[at], before);
-    }
+    meet_all(places, answers, registers);
+    keep_all(last, list, answers, registers);
 }
 
-fn waits_at(end: usize, place: EndPlace, registers: &[i64]) -> bool
-    requires { PlaceFits (length registers.now) place }
-    ensures { result ≡ waits_at end place (register_at registers.now) }
+fn waits(place: EndPlace, registers: &[i64]) -> bool
+    requires on { place.on < length registers.now }
+    requires met { place.met < length registers.now }
+    ensures { result ≡ is_waiting place (register_at registers.now) }
 {
-    place.which as usize == end
-        && registers[place.on as usize] != 0
-        && registers[place.met as usize] == 0
+    registers[place.on as usize] != 0 && registers[place.met as usize] == 0
 }
 
 fn value_at(side: Side, place: EndPlace, registers: &[i64]) -> i64
-    requires { PlaceFits (length registers.now) place }
+    requires { place.met + 1 < length registers.now }
     ensures { result ≡ value_at side place (register_at registers.now) }
 {
     match side {
         Side::Sender => registers[place.met as usize + 1],
         Side::Receiver => 0,
-    }
-}
-
-// The value with which the end of a number and side waits, if it does.
-fn ask_of(end: usize, side: Side, places: &[EndPlace], registers: &[i64]) -> Option<i64>
-    requires { PlacesFit places.now (length registers.now) }
-    ensures { result ≡ ask_of places.now end side (register_at registers.now) }
-{
-    for place in places {
-        if waits_at(end, *place, registers) {
-            return Some(value_at(side, *place, registers));
-        }
-    }
-    None
-}
-
-/// The value with which each end waits, if it does.
-pub fn ask_all(places: &[EndPlace], list: &[EndOf], registers: &[i64], asks: &mut Vec<Option<i64>>)
-    requires places { PlacesFit places.now (length registers.now) }
-    requires asks { length asks.old.items ≡ length list.now }
-    ensures asks { (k : ℕ) → k < length list.now → get_or asks.new.items k None ≡ ask_of places.now k (end_at list.now k).side (register_at registers.now) }
-    ensures len { length asks.new.items ≡ length list.now }
-{
-    for at in 0..list.len() {
-        asks[at] = ask_of(at, list[at].side, places, registers);
     }
 }
 
@@ -159,8 +143,35 @@ pub fn clear_asks(asks: &mut Vec<Option<i64>>)
     }
 }
 
+// The end of a place that waits asks its value, where no place before it does.
+fn ask_at(place: EndPlace, list: &[EndOf], registers: &[i64], asks: &mut Vec<Option<i64>>)
+    requires place { PlaceFits (length list.now) (length registers.now) place }
+    requires asks { length asks.old.items ≡ length list.now }
+    ensures asks { (k : ℕ) → k < length list.now → get_or asks.new.items k None ≡ first_of (get_or asks.old.items k None) (asked_at place k (end_at list.now k).side (register_at registers.now)) }
+    ensures len { length asks.new.items ≡ length asks.old.items }
+{
+    let end = place.which as usize;
+    if asks[end].is_none() && waits(place, registers) {
+        asks[end] = Some(value_at(list[end].side, place, registers));
+    }
+}
+
+/// The value with which each end waits, if it does.
+#[tactic(auto, using(crate::proofs::lemmas::step::AskPasses::asking_steps))]
+pub fn ask_all(places: &[EndPlace], list: &[EndOf], registers: &[i64], asks: &mut Vec<Option<i64>>)
+    requires places { PlacesFit places.now (length list.now) (length registers.now) }
+    requires asks { length asks.old.items ≡ length list.now }
+    ensures asks { (k : ℕ) → k < length list.now → get_or asks.new.items k None ≡ ask_of places.now k (end_at list.now k).side (register_at registers.now) }
+    ensures len { length asks.new.items ≡ length list.now }
+{
+    clear_asks(asks);
+    for place in places {
+        ask_at(*place, list, registers, asks);
+    }
+}
+
 fn raised_by(answer: Option<Joined>, stamp: u64) -> u64
-    requires { IfSome answer HasStamps }
+    requires { IfSome answer StampsFit }
     ensures value { result ≡ raised_by answer stamp }
     ensures limit { stamp ≤ 2 ^ 62 → result ≤ 2 ^ 62 }
 {
@@ -172,7 +183,7 @@ fn raised_by(answer: Option<Joined>, stamp: u64) -> u64
 
 /// The greatest stamp, with those of the answered joins.
 pub fn raised(answers: &[Option<Joined>], stamp: u64) -> u64
-    requires answers { (k : ℕ) → k < length answers.now → IfSome (get_or answers.now k None) HasStamps }
+    requires answers { (k : ℕ) → k < length answers.now → IfSome (get_or answers.now k None) StampsFit }
     requires limit { stamp ≤ 2 ^ 62 }
     ensures value { result ≡ raised answers.now (length answers.now) stamp }
     ensures limit { result ≤ 2 ^ 62 }

@@ -168,18 +168,17 @@ pub fn open_state(alloc: Global, registers: usize, ends: usize) -> Result<State,
 }
 
 /// The memory for one step.
-pub fn open_scratch(alloc: Global, program: &Program, signals: usize) -> Result<Scratch, NoMemory>
-    ensures { IfOk result (λ s. HasScratch program.now s signals) }
+pub fn open_scratch(alloc: Global, program: &Program) -> Result<Scratch, NoMemory>
+    ensures { IfOk result (HasScratch program.now) }
 {
     let ends = program.ends.len();
-    let shown = program.signals.len();
+    let signals = program.codes.signal_count();
     Ok(Scratch {
         answers: vec![in alloc; None; ends]?,
         replies: vec![in alloc; None; ends]?,
         asks: vec![in alloc; None; ends]?,
         wires: vec![in alloc; 0i64; program.codes.wire_count()]?,
         present: vec![in alloc; false; signals]?,
-        shown: vec![in alloc; false; shown]?,
-        zeros: vec![in alloc; 0i64; shown]?,
+        zeros: vec![in alloc; 0i64; signals]?,
     })
 }

@@ -1,12 +1,12 @@
 // The parts of a domain, and the phases of a step.
 
-ghost use Rattle.std.specs.Prelude.{◌≡◌, ◌+◌, ◌^◌, ◌<◌, ◌≤◌, ℕ, length, get_or, map, cond, false, None, IfSome, slice_index_or, List, Option};
+ghost use Rattle.std.specs.Prelude.{◌≡◌, ◌+◌, ◌^◌, ◌<◌, ◌≤◌, ℕ, length, get_or, cond, false, None, IfSome, List, Option};
 ghost use Rattle.cell_core.specs.declared.moves.Joined.{Joined};
 ghost use Rattle.domain_core.specs.equations.Codes.{AreSome};
 ghost use Rattle.domain_core.specs.definitions.step.EndCalls.{end_at, stands_after, CanRecall, CanOffer, RecallsAll, OffersAll};
-ghost use Rattle.domain_core.specs.step.EndPlaces.{ask_of, PlacesFit, LastFits};
+ghost use Rattle.domain_core.specs.step.EndPlaces.{ask_of, PlacesFit, LastFits, HaveOwnRegisters};
 ghost use Rattle.domain_core.specs.definitions.step.Domains.{register_at};
-ghost use Rattle.domain_core.specs.step.JoinLists.{HasStamps, HasRoom};
+ghost use Rattle.domain_core.specs.step.JoinLists.{StampsFit, HasRoom};
 ghost use Rattle.domain_core.specs.step.StepParts.{PartsHold, Applies, MakesCodeTick};
 
 use crate::equations::codes::Codes;
@@ -16,14 +16,13 @@ use crate::step::ends_of::{EndJoin, EndOf};
 use crate::step::join_lists::add_joins;
 use cell_core::{Ends, Joined};
 
-/// What never changes in a domain: its codes, its ends, the registers of the last values of its
-/// receiving channels, and its interface signals.
+/// What never changes in a domain: its codes, its ends, and the registers of the last values of its
+/// receiving channels.
 #[derive(Drop)]
 pub struct Program {
     pub codes: Codes,
     pub ends: Vec<EndOf>,
     pub last: Vec<u32>,
-    pub signals: Vec<u32>,
 }
 
 /// What ticks and joins change. `cause` is the greatest of the stamps of the last tick and of the joins
@@ -46,7 +45,6 @@ pub struct Scratch {
     pub asks: Vec<Option<i64>>,
     pub wires: Vec<i64>,
     pub present: Vec<bool>,
-    pub shown: Vec<bool>,
     pub zeros: Vec<i64>,
 }
 
@@ -54,10 +52,11 @@ pub struct Scratch {
 pub fn apply(program: &Program, state: &mut State, answers: &[Option<Joined>], ticks: u32)
     requires answers { length answers.now ≡ length program.now.ends.items }
     requires lists { length state.old.joins.items ≡ length program.now.ends.items }
-    requires places { PlacesFit program.now.codes.places.items (length state.old.registers.items) }
+    requires places { PlacesFit program.now.codes.places.items (length program.now.ends.items) (length state.old.registers.items) }
     requires last { LastFits program.now.last.items program.now.ends.items (length state.old.registers.items) }
+    requires own { HaveOwnRegisters program.now.codes.places.items program.now.last.items }
     requires room { HasRoom state.old.joins.items answers.now 0 }
-    requires stamps { (k : ℕ) → k < length answers.now → IfSome (get_or answers.now k None) HasStamps }
+    requires stamps { (k : ℕ) → k < length answers.now → IfSome (get_or answers.now k None) StampsFit }
     requires limit { state.old.cause ≤ 2 ^ 62 }
     ensures applies { Applies program.now state.old state.new answers.now ticks }
     ensures standing { state.new.standing.items ≡ state.old.standing.items }
@@ -97,17 +96,6 @@ pub fn tick(
     }
 }
 
-/// Which of the listed signals are present.
-pub fn pick(present: &[bool], signals: &[u32], shown: &mut Vec<bool>)
-    requires within { (k : ℕ) (e : ℕ) → k < length signals.now → get_or signals.now k e < length present.now }
-    requires shown { length shown.old.items ≡ length signals.now }
-    ensures shown { shown.new.items ≡ map (λ s. slice_index_or present.now s false) signals.now }
-{
-    for at in 0..signals.len() {
-        shown[at] = present[signals[at] as usize];
-    }
-}
-
 /// Recalls each end that stands, and completes the ends whose joins are answered. No end stands
 /// afterwards in `ends`; which stood is kept until the offers. It takes no memory.
 pub fn recall_phase<E: Ends>(
@@ -133,7 +121,7 @@ pub fn recall_phase<E: Ends>(
 
 /// What each end asks after a tick. It takes no memory.
 pub fn ask(program: &Program, registers: &[i64], ended: bool, asks: &mut Vec<Option<i64>>)
-    requires places { PlacesFit program.now.codes.places.items (length registers.now) }
+    requires places { PlacesFit program.now.codes.places.items (length program.now.ends.items) (length registers.now) }
     requires asks { length asks.old.items ≡ length program.now.ends.items }
     ensures asks { (k : ℕ) → k < length program.now.ends.items → get_or asks.new.items k None ≡ cond ended None (ask_of program.now.codes.places.items k (end_at program.now.ends.items k).side (register_at registers.now)) }
     ensures len { length asks.new.items ≡ length program.now.ends.items }
@@ -158,8 +146,9 @@ pub fn offer_phase<E: Ends>(
 )
     requires standing { length state.old.standing.items ≡ length program.now.ends.items }
     requires lists { length state.old.joins.items ≡ length program.now.ends.items }
-    requires places { PlacesFit program.now.codes.places.items (length state.old.registers.items) }
+    requires places { PlacesFit program.now.codes.places.items (length program.now.ends.items) (length state.old.registers.items) }
     requires last { LastFits program.now.last.items program.now.ends.items (length state.old.registers.items) }
+    requires own { HaveOwnRegisters program.now.codes.places.items program.now.last.items }
     requires room { (answers : List (Option Joined)) → HasRoom state.old.joins.items answers 0 }
     requires limit { state.old.cause ≤ 2 ^ 62 }
     requires replies { length replies.old.items ≡ length program.now.ends.items }

@@ -1,12 +1,10 @@
 -- The builder's loop over the parts of a sequence.
-use Rattle.std.proofs.Common.{◌≡◌, ℕ, ◌+◌, ◌≤◌, Bool, true, false, arith, List, [], ◌∷◌, ◌++◌, length, refl, sym, ap, ◌∙◌, subst, append_assoc, length-append}
+use Rattle.std.proofs.Common.{◌≡◌, ℕ, ◌+◌, Bool, true, false, List, [], ◌∷◌, ◌++◌, length, refl, sym, ap, ◌∙◌, subst, append_assoc, length-append}
 use Rattle.std.proofs.lemmas.List.{append-nil}
 use Rattle.domain_core.specs.equations.BuiltForms.{Plain, plain}
 use Rattle.kernel_terms.specs.declared.term.Term.{Term}
 use Rattle.kernel_terms.specs.declared.term.Form.TheViews as Form
 use Rattle.domain_core.proofs.lemmas.equations.BuiltLayers.{plain-Loop}
-use Rattle.std.specs.Prelude.{Result, Ok, Err, IfOk, OnOk}
-use Rattle.java_values.specs.declared.no_memory.NoMemory.{NoMemory}
 use Rattle.domain_core.specs.declared.equations.builder.Parts.{Parts}
 use Rattle.domain_core.specs.equations.BuiltRegisters.{registers}
 use Rattle.domain_core.specs.equations.BuiltForms.{ends0, ends1}
@@ -70,10 +68,6 @@ adds_again true old mid new p r d k e x y =
       emits = z.emits ∙ ap (λ l. l ++ b.emits) x.emits ∙ append_assoc old.emits.items a.emits b.emits;
       done = refl;
     }
-
-pub adds_wires_at_most : (r : Result ℕ NoMemory) (old new : Parts) (part : Part) (n : ℕ) → length part.equations ≤ n → IfOk r (λ d. Adds old new part d) → OnOk r (length new.equations.items ≤ length old.equations.items + n)
-adds_wires_at_most (Ok d) old new part n e h = let s : length new.equations.items ≡ length old.equations.items + length part.equations = ap length h.equations ∙ length-append old.equations.items part.equations in omega arith
-adds_wires_at_most (Err x) old new part n e h = tt
 
 pub resume_loop_again : (old mid new : Parts) (t body : Term) (r d k : ℕ) → t.form ≡ Form.Loop body → ends1 (plain body) ≡ true → Adds old mid (resume (plain body) (length old.equations.items) r) d → Adds mid new (start (plain body) (length mid.equations.items) d r) k → Adds old new (resume (plain t) (length old.equations.items) r) 0
 resume_loop_again old mid new t body r d k is e x y = subst (λ p. Adds old new (resume p (length old.equations.items) r) 0) (sym (plain-Loop t body is)) (adds_again (ends1 (plain body)) old mid new (plain body) r d k e x y)

@@ -1,7 +1,8 @@
 -- One more pair in a merge.
-use Rattle.std.proofs.Common.{◌≡◌, ◌≢◌, ◌⊎◌, inl, inr, ℕ, zero, suc, ◌+◌, ◌<◌, ℤ, true, false, ◌&&◌, ◌||◌, nat_eq, List, [], ◌∷◌, ◌++◌, length, take, get_or, arith, refl, sym, ap, ◌∙◌, subst, length-append, get_or-set_other, get_or-set_same, length-set}
+use Rattle.std.proofs.Common.{◌≡◌, ◌≢◌, ◌⊎◌, inl, inr, ℕ, zero, suc, ◌+◌, ◌<◌, ◌≤◌, ℤ, true, false, ◌&&◌, ◌||◌, nat_eq, List, [], ◌∷◌, ◌++◌, length, map, take, drop, get_or, All, append_assoc, append-nil, add-one, drop-cons, arith, refl, sym, ap, ◌∙◌, subst, length-append, get_or-set_other, get_or-set_same, length-set}
 use Rattle.std.specs.Prelude.{slice_index, replicate}
-use Rattle.std.proofs.Math.ListN.{set}
+use Rattle.std.proofs.Math.ListN.{set, length-map, drop_of_length-le}
+use Rattle.std.proofs.lemmas.List.{get_or-map}
 use Rattle.std.proofs.Math.Seq.{take-suc}
 use Rattle.std.proofs.lemmas.Bool.{cases_lt}
 use Rattle.std.proofs.lemmas.Bool.Decides.{nat_tests}
@@ -29,7 +30,6 @@ merges_none old count z = record {
   ordered = λ h. h;
   fits = λ size h. h;
   grows = omega arith;
-  room = omega arith;
   keeps = λ f w h. h;
   size = length-zeros count;
   wires_below = λ n h. omega (arith, all_zero count n);
@@ -68,7 +68,6 @@ merges_one old now wires seen pair count in_count lt t =
       ordered = λ h. ordered_append now (last ∷ []) 0 (t.ordered h) ((let z : length now ≡ 0 + length now = omega arith in z), (omega (arith, within), omega (arith, t.grows)), tt);
       fits = λ size h. fits_append now (last ∷ []) size (t.fits size h) (tt, tt);
       grows = omega (arith, t.grows, len);
-      room = omega (arith, t.room, len, length-append seen (pair ∷ []));
       keeps = λ f w h. t.keeps f w (satisfies_front now (last ∷ []) f w h);
       size = length-set wires pair.0 (length now) ∙ t.size;
       wires_below = λ n h. elim (same_or_not pair.0 n) [
@@ -108,19 +107,39 @@ merges_more old now next wires wires2 pairs i count d lt below is is2 t =
 
 pub ruleset merge_steps = (merges_none, merges_more, below_at)
 
-pub shows : (e0 e1 e2 code : List Equation) (present next : List ℕ) (sets emits : List (ℕ × ℕ)) (end signals count : ℕ) → Merges e0 e1 present emits signals → Merges e1 e2 next sets count → code ≡ e2 → FitsFrame count e0 → end < length e0
-    → (part : Part) → head ++ part.equations ≡ e0 → part.done ≡ end → part.sets ≡ sets → part.emits ≡ emits → Shows code present next end head part signals count
-shows e0 e1 e2 code present next sets emits end signals count x y code_is fits lt part is d s e =
-    let go : Shows e2 present next end head part signals count = record {
+-- the wires of some numbers
+pub picking_first : (f : ℕ → ℕ) (numbers : List ℕ) → [] ++ map f numbers ≡ map f numbers
+picking_first f numbers = refl
+
+pub picking_on : (f : ℕ → ℕ) (numbers picked : List ℕ) (i n : ℕ) → i < length numbers → n ≡ get_or numbers i n → picked ++ map f (drop i numbers) ≡ map f numbers → (picked ++ f n ∷ []) ++ map f (drop (i + 1) numbers) ≡ map f numbers
+picking_on f numbers picked i n lt is before =
+    append_assoc picked (f n ∷ []) (map f (drop (i + 1) numbers))
+    ∙ ap (λ k. picked ++ f n ∷ map f (drop k numbers)) (add-one i)
+    ∙ ap (λ k. picked ++ f k ∷ map f (drop (suc i) numbers)) is
+    ∙ sym (ap (λ l. picked ++ map f l) (drop-cons numbers i n lt))
+    ∙ before
+
+pub picking_last : (f : ℕ → ℕ) (numbers picked : List ℕ) (i : ℕ) → length numbers ≤ i → picked ++ map f (drop i numbers) ≡ map f numbers → picked ≡ map f numbers
+picking_last f numbers picked i past before = sym (append-nil picked) ∙ sym (ap (λ l. picked ++ map f l) (drop_of_length-le numbers past)) ∙ before
+
+pub ruleset picking_steps = (picking_first, picking_on, picking_last)
+
+pub shows : (e0 e1 e2 code : List Equation) (emitted present next own : List ℕ) (sets emits : List (ℕ × ℕ)) (end signals count : ℕ) → Merges e0 e1 emitted emits signals → Merges e1 e2 next sets count → code ≡ e2 → FitsFrame count e0 → end < length e0
+    → All (λ (s : ℕ). s < signals) own → present ≡ map (slice_index emitted) own
+    → (part : Part) → head ++ part.equations ≡ e0 → part.done ≡ end → part.sets ≡ sets → part.emits ≡ emits → Shows code present next end head part own count
+shows e0 e1 e2 code emitted present next own sets emits end signals count x y code_is fits lt below picked part is d s e =
+    let wire : (n : ℕ) → n < length own → slice_index present n ≡ slice_index emitted (slice_index own n) =
+    λ n h. ap (λ l. slice_index l n) picked ∙ get_or-map (slice_index emitted) own n 0 0 h in
+    let go : Shows e2 present next end head part own count = record {
       fits = y.fits count (x.fits count fits);
       keeps = λ f w h. subst (λ l. Satisfies l f w) (sym is) (x.keeps f w (y.keeps f w h));
       done = sym d;
       end_below = omega (arith, x.grows, y.grows);
-      signal_count = x.size;
-      signals_below = λ n h. (let b = x.wires_below n h in omega (arith, b, y.grows));
-      emits = λ n h f w sat off. x.tests n h f w (y.keeps f w sat) off ∙ ap (λ l. is_set w l n) (sym e);
+      signal_count = ap length picked ∙ length-map own (slice_index emitted);
+      signals_below = λ n h. (let b = x.wires_below (slice_index own n) (below n 0 h) in let w = wire n h in omega (arith, b, y.grows, w));
+      emits = λ n h f w sat off. ap (is_on w) (wire n h) ∙ x.tests (slice_index own n) (below n 0 h) f w (y.keeps f w sat) off ∙ ap (λ l. is_set w l (slice_index own n)) (sym e);
       registers = y.size;
       registers_below = λ n h. y.wires_below n h;
       sets = λ n h f w sat off. y.tests n h f w sat off ∙ ap (λ l. is_set w l n) (sym s);
     } in
-    subst (λ l. Shows l present next end head part signals count) (sym code_is) go
+    subst (λ l. Shows l present next end head part own count) (sym code_is) go

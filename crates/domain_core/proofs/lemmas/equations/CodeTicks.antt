@@ -1,6 +1,8 @@
 -- A step of a code tells a tick of its statement.
-use Rattle.std.proofs.Common.{◌≡◌, ℕ, ◌+◌, ◌≤◌, ◌<◌, ℤ, pos, Bool, true, false, ◌&&◌, ◌||◌, cond, nat_eq, List, [], ◌∷◌, ◌++◌, length, All, arith, refl, sym, ap, ◌∙◌, subst}
+use Rattle.std.proofs.Common.{◌≡◌, ℕ, ◌+◌, ◌≤◌, ◌<◌, ℤ, pos, Bool, true, false, ◌&&◌, ◌||◌, cond, nat_eq, List, [], ◌∷◌, ◌++◌, length, get_or, map, All, arith, refl, sym, ap, ◌∙◌, subst}
+use Rattle.std.proofs.Math.ListN.{length-map}
 use Rattle.std.proofs.lemmas.Bool.{true≢false}
+use Rattle.std.proofs.lemmas.List.{ext_get_or, get_or-map}
 use Rattle.std.proofs.lemmas.List.Elements.{All-cons}
 use Rattle.kernel_terms.specs.declared.tables.Tables.{Tables}
 use Rattle.kernel_terms.specs.Statements.{Stmt}
@@ -70,19 +72,24 @@ goes_on : (tables : Tables) (p : Plain) (o : Told) (new : ℕ → ℤ) (ended : 
 goes_on tables p o new ended (IsOver e c r) h = absurd (true≢false (sym e ∙ h))
 goes_on tables p o new ended (GoesOn e c s) h = record { code = c; stands = s }
 
+-- a list that shows each of some signals as it is
+shown_of : (f : ℕ → Bool) (own : List ℕ) (shown : List Bool) → length shown ≡ length own → ((n : ℕ) → n < length own → get_or shown n false ≡ f (get_or own n 0)) → shown ≡ map f own
+shown_of f own shown len at =
+    ext_get_or false shown (map f own) (len ∙ sym (length-map own f)) (λ n less. at n (omega (arith, len, less)) ∙ sym (get_or-map f own n 0 false (omega (arith, len, less))))
+
 -- the registers after a step, with the literals written
-written_after : (p : Plain) (part : Part) (code : List Equation) (present next : List ℕ) (end signals : ℕ) (old values between : List ℤ) (shown : List Bool) (ended : Bool)
-    → Shows code present next end head part signals (registers p) → Steps code present next end old values shown between ended → registers p ≤ length old → is_on values 0 ≡ false
+written_after : (p : Plain) (part : Part) (code : List Equation) (present next own : List ℕ) (end : ℕ) (old values between : List ℤ) (shown : List Bool) (ended : Bool)
+    → Shows code present next end head part own (registers p) → Steps code present next end old values shown between ended → registers p ≤ length old → is_on values 0 ≡ false
     → Written p 0 (number_at (written (literals p 0) between)) (is_set values part.sets)
-written_after p part code present next end signals old values between shown ended s k len off =
+written_after p part code present next own end old values between shown ended s k len off =
     after_writing p 0 between (is_set values part.sets) (omega (arith, k.size))
     (λ n ge lt. k.moves n (omega (arith, s.registers, lt)) ∙ s.sets n (omega (arith, lt)) old values k.satisfies off)
 
-from_active : (tables : Tables) (p : Plain) (t : Stmt) (part : Part) (code : List Equation) (present next : List ℕ) (end signals limit : ℕ) (old values between : List ℤ) (shown : List Bool) (ended : Bool)
-    → Shows code present next end head part signals (registers p) → Steps code present next end old values shown between ended → is_on values 0 ≡ false
+from_active : (tables : Tables) (p : Plain) (t : Stmt) (part : Part) (code : List Equation) (present next own : List ℕ) (end signals limit : ℕ) (old values between : List ℤ) (shown : List Bool) (ended : Bool)
+    → Shows code present next end head part own (registers p) → Steps code present next end old values shown between ended → is_on values 0 ≡ false
     → Written p 0 (number_at (written (literals p 0) between)) (is_set values part.sets) → Below signals limit part.emits
-    → Active values (λ n. record { present = is_set values part.emits n; value = pos 0 }) p t 0 part → TellsTick tables (whole p) signals t shown (number_at (written (literals p 0) between)) ended
-from_active tables p t part code present next end signals limit old values between shown ended s k off w below x =
+    → Active values (λ n. record { present = is_set values part.emits n; value = pos 0 }) p t 0 part → TellsTick tables (whole p) signals own t shown (number_at (written (literals p 0) between)) ended
+from_active tables p t part code present next own end signals limit old values between shown ended s k off w below x =
     let new = number_at (written (literals p 0) between) in
     let o = x.tick in
     let e : ended ≡ is_on values part.done = k.ends ∙ ap (λ n. is_on values n) s.done in
@@ -96,8 +103,7 @@ from_active tables p t part code present next end signals limit old values betwe
       tick = λ last y. tick_of o y;
       ticks = λ last y. x.ticks tables last y;
       variables = λ last y. refl;
-      count = k.count ∙ s.signal_count;
-      shows = λ n h. sym (k.tells n (omega (arith, s.signal_count)) ∙ s.emits n h old values k.satisfies off);
+      shows = shown_of (is_set values part.emits) own shown (k.count ∙ s.signal_count) (λ n h. k.tells n (omega (arith, h, s.signal_count)) ∙ s.emits n h old values k.satisfies off);
       emitted = λ last y n h. sym (any_emitted values part.emits n) ∙ ap (λ l. is_emitted l n) x.emits;
       pure = λ n h. refl;
       zeros = λ last y. pure_ones.zeros;
@@ -115,33 +121,33 @@ wire_off old values es h = ap is_true h.0
 wire_on : (old values : List ℤ) (es : List Equation) → Satisfies (head ++ es) old values → is_on values 1 ≡ true
 wire_on old values es h = ap is_true h.1.0
 
-pub first_tick : (tables : Tables) (c : Codes) (p : Plain) (signals : ℕ) (old new : List ℤ) (shown : List Bool) (ended : Bool) → AreCodes c p signals → c.registers ≤ length old
-    → StepsOn c.starting c.literals.items old shown new ended → TellsTick tables (whole p) signals (whole p) shown (number_at new) ended
-first_tick tables c p signals old new shown ended a len st =
+pub first_tick : (tables : Tables) (c : Codes) (p : Plain) (signals : ℕ) (own : List ℕ) (old new : List ℤ) (shown : List Bool) (ended : Bool) → AreCodes c p signals own → c.registers ≤ length old
+    → StepsOn c.starting c.literals.items old shown new ended → TellsTick tables (whole p) signals own (whole p) shown (number_at new) ended
+first_tick tables c p signals own old new shown ended a len st =
     let part = start p 2 1 0 in
     let s = a.starting in
     let k = st.steps in
     let values = st.values in
     let h = s.keeps old values k.satisfies in
     let off = wire_off old values part.equations h in
-    let w = written_after p part c.starting.code c.starting.present.items c.starting.next.items c.starting.end signals old values st.between shown ended s k (omega (arith, len, a.register_count)) off in
+    let w = written_after p part c.starting.code c.starting.present.items c.starting.next.items own c.starting.end old values st.between shown ended s k (omega (arith, len, a.register_count)) off in
     let b = start_stands p 2 1 0 (registers p) signals (omega arith) (omega arith) (omega arith) a.can.emits in
-    let tells = from_active tables p (whole p) part c.starting.code c.starting.present.items c.starting.next.items c.starting.end signals (2 + length part.equations) old values st.between shown ended s k off w b.emits
+    let tells = from_active tables p (whole p) part c.starting.code c.starting.present.items c.starting.next.items own c.starting.end signals (2 + length part.equations) old values st.between shown ended s k off w b.emits
     (start_active values (λ n. record { present = is_set values part.emits n; value = pos 0 }) p 2 1 0 a.can.waits off (wire_on old values part.equations h)) in
-    subst (λ l. TellsTick tables (whole p) signals (whole p) shown (number_at l) ended) (sym (st.writes ∙ ap (λ l. written l st.between) a.all_literals)) tells
+    subst (λ l. TellsTick tables (whole p) signals own (whole p) shown (number_at l) ended) (sym (st.writes ∙ ap (λ l. written l st.between) a.all_literals)) tells
 
-pub first_holds : (c : Codes) (p : Plain) (signals : ℕ) (old new : List ℤ) (shown : List Bool) (ended : Bool) → AreCodes c p signals → c.registers ≤ length old
+pub first_holds : (c : Codes) (p : Plain) (signals : ℕ) (own : List ℕ) (old new : List ℤ) (shown : List Bool) (ended : Bool) → AreCodes c p signals own → c.registers ≤ length old
     → StepsOn c.starting c.literals.items old shown new ended → HoldsLiteral p 0 (number_at new)
-first_holds c p signals old new shown ended a len st =
+first_holds c p signals own old new shown ended a len st =
     let part = start p 2 1 0 in
     let h = a.starting.keeps old st.values st.steps.satisfies in
-    let w = written_after p part c.starting.code c.starting.present.items c.starting.next.items c.starting.end signals old st.values st.between shown ended a.starting st.steps (omega (arith, len, a.register_count)) (wire_off old st.values part.equations h) in
+    let w = written_after p part c.starting.code c.starting.present.items c.starting.next.items own c.starting.end old st.values st.between shown ended a.starting st.steps (omega (arith, len, a.register_count)) (wire_off old st.values part.equations h) in
     subst (λ l. HoldsLiteral p 0 (number_at l)) (sym (st.writes ∙ ap (λ l. written l st.between) a.all_literals)) w.holds
 
-pub later_tick : (tables : Tables) (c : Codes) (p : Plain) (signals : ℕ) (old new : List ℤ) (shown : List Bool) (ended : Bool) → AreCodes c p signals → c.registers ≤ length old
+pub later_tick : (tables : Tables) (c : Codes) (p : Plain) (signals : ℕ) (own : List ℕ) (old new : List ℤ) (shown : List Bool) (ended : Bool) → AreCodes c p signals own → c.registers ≤ length old
     → frame.FitRegisters tables (whole p) 0 (number_at old) → HoldsLiteral p 0 (number_at old)
-    → StepsOn c.resuming c.literals.items old shown new ended → TellsTick tables (whole p) signals (frame.residual tables (whole p) 0 (number_at old)) shown (number_at new) ended
-later_tick tables c p signals old new shown ended a len fit holds st =
+    → StepsOn c.resuming c.literals.items old shown new ended → TellsTick tables (whole p) signals own (frame.residual tables (whole p) 0 (number_at old)) shown (number_at new) ended
+later_tick tables c p signals own old new shown ended a len fit holds st =
     let part = resume p 2 0 in
     let s = a.resuming in
     let k = st.steps in
@@ -149,26 +155,26 @@ later_tick tables c p signals old new shown ended a len fit holds st =
     let env : Env = λ n. record { present = is_set values part.emits n; value = pos 0 } in
     let h = s.keeps old values k.satisfies in
     let off = wire_off old values part.equations h in
-    let w = written_after p part c.resuming.code c.resuming.present.items c.resuming.next.items c.resuming.end signals old values st.between shown ended s k (omega (arith, len, a.register_count)) off in
+    let w = written_after p part c.resuming.code c.resuming.present.items c.resuming.next.items own c.resuming.end old values st.between shown ended s k (omega (arith, len, a.register_count)) off in
     let b = resume_stands p 2 0 (registers p) signals (omega arith) (omega arith) a.can.emits in
     let f = whole_stands tables p (number_at old) (is_on old) (own_flags p 0 old) holds fit in
     let x = resume_active values old env p 2 0 a.can.waits off (satisfies_back head part.equations old values h) f.is_live f.once in
-    let tells = from_active tables p (frame.residual tables (whole p) 0 (number_at old)) part c.resuming.code c.resuming.present.items c.resuming.next.items c.resuming.end signals (2 + length part.equations) old values st.between shown ended s k off w b.emits
+    let tells = from_active tables p (frame.residual tables (whole p) 0 (number_at old)) part c.resuming.code c.resuming.present.items c.resuming.next.items own c.resuming.end signals (2 + length part.equations) old values st.between shown ended s k off w b.emits
     (subst (λ u. Active values env p u 0 part) f.residual x) in
-    subst (λ l. TellsTick tables (whole p) signals (frame.residual tables (whole p) 0 (number_at old)) shown (number_at l) ended) (sym (st.writes ∙ ap (λ l. written l st.between) a.all_literals)) tells
+    subst (λ l. TellsTick tables (whole p) signals own (frame.residual tables (whole p) 0 (number_at old)) shown (number_at l) ended) (sym (st.writes ∙ ap (λ l. written l st.between) a.all_literals)) tells
 
-pub later_holds : (c : Codes) (p : Plain) (signals : ℕ) (old new : List ℤ) (shown : List Bool) (ended : Bool) → AreCodes c p signals → c.registers ≤ length old
+pub later_holds : (c : Codes) (p : Plain) (signals : ℕ) (own : List ℕ) (old new : List ℤ) (shown : List Bool) (ended : Bool) → AreCodes c p signals own → c.registers ≤ length old
     → StepsOn c.resuming c.literals.items old shown new ended → HoldsLiteral p 0 (number_at new)
-later_holds c p signals old new shown ended a len st =
+later_holds c p signals own old new shown ended a len st =
     let part = resume p 2 0 in
     let h = a.resuming.keeps old st.values st.steps.satisfies in
-    let w = written_after p part c.resuming.code c.resuming.present.items c.resuming.next.items c.resuming.end signals old st.values st.between shown ended a.resuming st.steps (omega (arith, len, a.register_count)) (wire_off old st.values part.equations h) in
+    let w = written_after p part c.resuming.code c.resuming.present.items c.resuming.next.items own c.resuming.end old st.values st.between shown ended a.resuming st.steps (omega (arith, len, a.register_count)) (wire_off old st.values part.equations h) in
     subst (λ l. HoldsLiteral p 0 (number_at l)) (sym (st.writes ∙ ap (λ l. written l st.between) a.all_literals)) w.holds
 
 -- registers past those of the statement stay
-pub rest_stays : (built : Built) (p : Plain) (part : Part) (signals : ℕ) (old new : List ℤ) (shown : List Bool) (ended : Bool) → Shows built.code built.present.items built.next.items built.end head part signals (registers p)
+pub rest_stays : (built : Built) (p : Plain) (part : Part) (own : List ℕ) (old new : List ℤ) (shown : List Bool) (ended : Bool) → Shows built.code built.present.items built.next.items built.end head part own (registers p)
     → StepsOn built (literals p 0) old shown new ended → (k : ℕ) → registers p ≤ k → number_at new k ≡ number_at old k
-rest_stays built p part signals old new shown ended s st k past =
+rest_stays built p part own old new shown ended s st k past =
     ap (λ l. number_at l k) st.writes ∙ written_past p 0 k st.between (omega (arith, past)) ∙ st.steps.stays k (omega (arith, past, s.registers))
 
 -- a code steps over more registers than those of the statement
@@ -182,9 +188,9 @@ fits_more (e ∷ es) m n le h = (reads e.formula h.0, fits_more es m n le h.1) w
   reads (Or a b) r = tt
   reads (Not a) r = tt
 
-pub can_step : (built : Built) (p : Plain) (part : Part) (signals count present : ℕ) → Shows built.code built.present.items built.next.items built.end head part signals (registers p)
-    → registers p ≤ count → present ≡ signals → CanStep built count present
-can_step built p part signals count present s room same = record {
+pub can_step : (built : Built) (p : Plain) (part : Part) (own : List ℕ) (count present : ℕ) → Shows built.code built.present.items built.next.items built.end head part own (registers p)
+    → registers p ≤ count → present ≡ length own → CanStep built count present
+can_step built p part own count present s room same = record {
   fits = fits_more built.code (registers p) count room s.fits;
   next = omega (arith, room, s.registers);
   present = same ∙ sym s.signal_count;

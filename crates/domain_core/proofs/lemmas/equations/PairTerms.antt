@@ -11,8 +11,8 @@ use Rattle.kernel_terms.specs.Statements as rules
 use Rattle.kernel_terms.specs.MayEnd.{LoopsWait}
 use Rattle.kernel_terms.specs.WellFormed.{is_well_formed, has_names, is_within_limits, has_entries, has_parts, fit_statements, declares_each_once}
 use Rattle.tick_tree.specs.definitions.Weight.{weight_of, most_weight}
-use Rattle.domain_core.specs.definitions.Rows.{IsTermOf, IsPair, pure_domains}
-use Rattle.domain_core.specs.definitions.step.Built.{is_built, size_of, most_size}
+use Rattle.domain_core.specs.step.SmallDomains.{IsTermOf, IsPair, pure_domains}
+use Rattle.domain_core.specs.definitions.step.Built.{is_built}
 use Rattle.domain_core.specs.definitions.step.PureSignals.{HasPureOutputs}
 use Rattle.domain_core.specs.definitions.step.Compiling.{CanCompile}
 use Rattle.domain_core.specs.definitions.runs.Systems.{source_of}
@@ -43,7 +43,6 @@ pair_can_compile system pair =
       built = λ t. ap (λ l. is_built (get_or l 1 t)) pair.domains ∙ pair.receives.built;
       loops = subst LoopsWait (sym source) (tt, tt);
       weight = subst (λ s. weight_of s ≤ most_weight) (sym source) (omega arith);
-      size = subst (λ s. size_of s ≤ most_size) (sym source) (omega arith);
       pure = subst (λ t. HasPureOutputs t 1) (sym pair.tables) outputs;
     }
   where

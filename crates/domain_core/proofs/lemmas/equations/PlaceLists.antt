@@ -8,14 +8,14 @@ use Rattle.domain_core.specs.declared.step.ends_of.EndOf.{EndOf}
 use Rattle.domain_core.specs.declared.equations.sites.Found.{Found}
 use Rattle.domain_core.specs.equations.BuiltForms.{Plain, plain, sequence, sequence_from}
 use Rattle.domain_core.specs.equations.BuiltRegisters.{registers, literals}
-use Rattle.domain_core.specs.equations.Places.{places_of, Finds, places_of_all, literals_of_all, FindsAll}
+use Rattle.domain_core.specs.equations.Places.{plain_places, Finds, all_plain_places, literals_of_all, FindsAll}
 use Rattle.domain_core.proofs.lemmas.equations.BuiltLayers.{plain-Seq, plain-Loop}
 
-places-sequence_from : (ends : List EndOf) (p : Plain) (ps : List Plain) (r : ℕ) → places_of ends (sequence_from p ps) r ≡ places_of_all ends (p ∷ ps) r
-places-sequence_from ends p [] r = sym (append-nil (places_of ends p r))
-places-sequence_from ends p (q ∷ ps) r = ap (λ l. places_of ends p r ++ l) (places-sequence_from ends q ps (r + registers p))
+places-sequence_from : (ends : List EndOf) (p : Plain) (ps : List Plain) (r : ℕ) → plain_places ends (sequence_from p ps) r ≡ all_plain_places ends (p ∷ ps) r
+places-sequence_from ends p [] r = sym (append-nil (plain_places ends p r))
+places-sequence_from ends p (q ∷ ps) r = ap (λ l. plain_places ends p r ++ l) (places-sequence_from ends q ps (r + registers p))
 
-places-sequence : (ends : List EndOf) (ps : List Plain) (r : ℕ) → places_of ends (sequence ps) r ≡ places_of_all ends ps r
+places-sequence : (ends : List EndOf) (ps : List Plain) (r : ℕ) → plain_places ends (sequence ps) r ≡ all_plain_places ends ps r
 places-sequence ends [] r = refl
 places-sequence ends (p ∷ ps) r = places-sequence_from ends p ps r
 
@@ -45,7 +45,7 @@ pub ruleset places_of_sequences = (finds-Seq, finds-Loop)
 
 -- with the rest, the lists are what they will be
 pub record FindsRest (old now : Found) (ends : List EndOf) (all left : List Plain) (r next : ℕ) : Type 0 where
-  pub places : now.places.items ++ places_of_all ends left next ≡ old.places.items ++ places_of_all ends all r
+  pub places : now.places.items ++ all_plain_places ends left next ≡ old.places.items ++ all_plain_places ends all r
   pub literals : now.literals.items ++ literals_of_all left next ≡ old.literals.items ++ literals_of_all all r
 
 pub finds_first : (old : Found) (ends : List EndOf) (all : List Plain) (r : ℕ) → FindsRest old old ends all all r r
@@ -54,7 +54,7 @@ finds_first old ends all r = record { places = refl; literals = refl }
 pub finds_on : (old now new : Found) (ends : List EndOf) (all : List Plain) (p : Plain) (ps : List Plain) (r next : ℕ) → FindsRest old now ends all (p ∷ ps) r next → Finds now new ends p next → FindsRest old new ends all ps r (next + registers p)
 finds_on old now new ends all p ps r next x f =
     record {
-      places = ap (λ l. l ++ places_of_all ends ps (next + registers p)) f.places ∙ append_assoc now.places.items (places_of ends p next) (places_of_all ends ps (next + registers p)) ∙ x.places;
+      places = ap (λ l. l ++ all_plain_places ends ps (next + registers p)) f.places ∙ append_assoc now.places.items (plain_places ends p next) (all_plain_places ends ps (next + registers p)) ∙ x.places;
       literals = ap (λ l. l ++ literals_of_all ps (next + registers p)) f.literals ∙ append_assoc now.literals.items (literals p next) (literals_of_all ps (next + registers p)) ∙ x.literals;
     }
 

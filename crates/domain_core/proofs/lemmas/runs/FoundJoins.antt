@@ -1,8 +1,8 @@
 -- A domain's state once joins that were found are applied to its ends, one after another and at once.
-use Rattle.std.proofs.Common.{◌≡◌, ◌≢◌, ℕ, ℤ, Bool, true, false, cond, Option, Some, None, refl, sym, ap, ◌∙◌, ◌⊎◌, inl, inr}
+use Rattle.std.proofs.Common.{◌≡◌, ◌≢◌, ℕ, ℤ, Bool, true, false, cond, Option, Some, None, refl, ap, ◌∙◌, ◌⊎◌, inl, inr}
 use Rattle.std.specs.Prelude.{◌||◌, ◌&&◌, ◌==◌, is_some, unwrap_or}
 use Rattle.std.proofs.Math.Path.{fun_ext}
-use Rattle.std.proofs.lemmas.Bool.{cases_eq, eq-eqb, ne_eqb, eqb-true, cond-true, cond-false}
+use Rattle.std.proofs.lemmas.Bool.{eq-eqb, ne_eqb, eqb-true, cond-true, cond-false}
 use Rattle.kernel_terms.specs.declared.tables.Tables.{Tables}
 use Rattle.kernel_terms.specs.TableEntries.{channel_at}
 use Rattle.kernel_rules.specs.definitions.LegalTick.{DomainState}
@@ -84,23 +84,6 @@ only_here c v = cond-true (c == c) (Some v) None (eq-eqb c c refl)
 
 pub only_apart : (c : ℕ) (v : ℤ) (k : ℕ) → k ≢ c → only c v k ≡ None
 only_apart c v k h = cond-false (k == c) (Some v) None (ne_eqb k c h)
-
--- joins of two channels, in any order
-pub found_swap : (t : Tables) (d c k : ℕ) (v w : ℤ) (s : DomainState) → c ≢ k → with_found t d (only c v) (with_found t d (only k w) s) ≡ with_found t d (only k w) (with_found t d (only c v) s)
-found_swap t d c k v w s ne =
-    found_both t d (only c v) (only k w) s
-    ∙ found_same t d _ _ s (λ b own. elim (cases_eq b c) [
-      | inl e ↦ one_none (only c v b) (only k w b) (only_apart k w b (λ x. ne (sym e ∙ x)))
-      | inr e ↦ none_one (only c v b) (only k w b) (only_apart c v b e)
-    ])
-    ∙ sym (found_both t d (only k w) (only c v) s)
-  where
-    one_none : (x y : Option ℤ) → y ≡ None → or_found x y ≡ or_found y x
-    one_none None y h = sym (ap (λ z. or_found z None) h ∙ sym h)
-    one_none (Some v) y h = sym (ap (λ z. or_found z (Some v)) h)
-
-    none_one : (x y : Option ℤ) → x ≡ None → or_found x y ≡ or_found y x
-    none_one x y h = sym (one_none y x h)
 
 -- a wait of a channel on which nothing is found stays, and none begins
 pub found_still_sends : (t : Tables) (d : ℕ) (f : ℕ → Option ℤ) (s : DomainState) (c : ℕ) (v : ℤ) → (((channel_at t c).sender == d) && is_some (f c)) ≡ false →

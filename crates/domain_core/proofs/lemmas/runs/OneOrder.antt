@@ -2,7 +2,7 @@
 use Rattle.std.proofs.Common.{◌≡◌, ℕ, zero, suc, List, [], ◌∷◌, refl, sym, ap, ◌∙◌, subst, inl, inr, arith, ◌⊎◌}
 use Rattle.std.specs.Prelude.{◌↔◌}
 use Rattle.tick_log.specs.definitions.Runs.{RunState}
-use Rattle.tick_log.specs.definitions.StampOrder.{Event, TickOf, JoinOf, IsEventOf, IsBefore, by_stamp, at_one_stamp, IsIn, Ascends, IsStampOrder}
+use Rattle.tick_log.specs.definitions.StampOrder.{Event, TickOf, JoinOf, IsEventOf, stamp_of, IsBefore, by_stamp, at_one_stamp, IsIn, Ascends, IsStampOrder}
 use Rattle.domain_core.specs.definitions.Rows.{rendezvous_run, join_between, join_last}
 use Rattle.domain_core.proofs.lemmas.runs.Order.{before_on, before_self}
 
@@ -116,3 +116,13 @@ join-between order = only_order (rendezvous_run 3) join_between order between
 
 pub join-last : (order : List Event) → IsStampOrder (rendezvous_run 2) order ↔ (order ≡ join_last)
 join-last order = only_order (rendezvous_run 2) join_last order last
+
+pub later_join : (r : RunState) → stamp_of r (JoinOf 0 1) ≡ stamp_of r (JoinOf 1 0) → IsBefore r (JoinOf 1 0) (JoinOf 0 1) → ⊥
+later_join r e (by_stamp less) = absurd (omega arith)
+later_join r e (at_one_stamp f (inl less)) = absurd (omega arith)
+later_join r e (at_one_stamp f (inr (same, less))) = absurd (omega arith)
+
+pub later_tick : (r : RunState) → stamp_of r (TickOf 0 1) ≡ stamp_of r (TickOf 1 0) → IsBefore r (TickOf 1 0) (TickOf 0 1) → ⊥
+later_tick r e (by_stamp less) = absurd (omega arith)
+later_tick r e (at_one_stamp f (inl less)) = absurd (omega arith)
+later_tick r e (at_one_stamp f (inr (same, less))) = absurd (omega arith)

@@ -9,7 +9,7 @@ use Rattle.tick_log.specs.definitions.Runs.{RunState, tick_count, join_count, ti
 use Rattle.domain_core.specs.definitions.runs.LegalRuns.{IsJoinStamp, HasStamps, Fits}
 use Rattle.domain_core.specs.definitions.runs.OwnRuns.{sender_ticks_at, receiver_ticks_at}
 use Rattle.domain_core.specs.definitions.runs.Scheduled.{TellsFrom, IsRunOf}
-use Rattle.domain_core.specs.runs.StampsByStep.{StampsFrom, raised}
+use Rattle.domain_core.specs.runs.StampsByStep.{StampsFrom, raised_at}
 use Rattle.domain_core.proofs.lemmas.runs.Places.{put_here, put_apart, put_cases, put_more, one_more}
 use Rattle.domain_core.proofs.lemmas.runs.Stamps.{has_stamps}
 use Rattle.domain_core.proofs.lemmas.runs.AnyOrder.{SoFar, with_tick, tick_so_far, join_so_far, at_start, place_cases}
@@ -143,7 +143,7 @@ join_stamped : (p : Setup) (r : RunState) (after : ℕ → ℕ → DomainState) 
     SoFar p r after t (one_more j c) new → sender_ticks_at r c (j c) ≡ t (sender_of p c) → receiver_ticks_at r c (j c) ≡ t (receiver_of p c) → StampsSoFar p r t j last since →
     (join_of r c (j c)).stamp ≡ suc (max (last (sender_of p c)) (last (receiver_of p c))) →
     StampsSoFar p r t (one_more j c) last
-    (raised (raised since (sender_of p c) (suc (max (last (sender_of p c)) (last (receiver_of p c))))) (receiver_of p c) (suc (max (last (sender_of p c)) (last (receiver_of p c)))))
+    (raised_at (raised_at since (sender_of p c) (suc (max (last (sender_of p c)) (last (receiver_of p c))))) (receiver_of p c) (suc (max (last (sender_of p c)) (last (receiver_of p c)))))
 join_stamped p r after t j last since new c sys fresh w a ns nr b e =
     let sd = sender_of p c in
     let rd = receiver_of p c in
@@ -169,14 +169,14 @@ join_stamped p r after t j last since new c sys fresh w a ns nr b e =
     let at_r : JoinedAt p r (one_more j c) rd (t rd) c (j c) = record { channel = w; stands = here; number = inr (refl, nr) } in
     record {
       last_is = b.last_is;
-      none_yet = λ d h. elim (put_cases (raised since sd x) rd (max (raised since sd x rd) x) d) [
+      none_yet = λ d h. elim (put_cases (raised_at since sd x) rd (max (raised_at since sd x rd) x) d) [
         | inl (q, u) ↦ let v = ap t q in absurd (omega arith)
         | inr (q, u) ↦ elim (put_cases since sd (max (since sd) x) d) [
           | inl (q2, u2) ↦ let v = ap t q2 in absurd (omega arith)
           | inr (q2, u2) ↦ u ∙ u2 ∙ b.none_yet d h
         ]
       ];
-      since_is = λ d. elim (put_cases (raised since sd x) rd (max (raised since sd x rd) x) d) [
+      since_is = λ d. elim (put_cases (raised_at since sd x) rd (max (raised_at since sd x rd) x) d) [
         | inl (q, u) ↦
             let v = u ∙ ap (λ z. max z x) (put_apart since sd (max (since sd) x) rd back) in
             let g = greatest_more p r j c rd (t rd) (last rd) (since rd) x (sym e) at_r (b.since_is rd) in

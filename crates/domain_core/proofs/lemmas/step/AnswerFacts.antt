@@ -5,10 +5,10 @@ use Rattle.std.proofs.lemmas.Option.{none-some}
 use Rattle.cell_core.specs.declared.moves.Joined.{Joined}
 use Rattle.cell_core.specs.Ends.{EndView, JoinsOffer}
 use Rattle.domain_core.specs.definitions.step.EndCalls.{IsOffered}
-use Rattle.domain_core.specs.step.JoinLists.{HasStamps}
+use Rattle.domain_core.specs.step.JoinLists.{StampsFit}
 
 pub offered_stamps : (ask : Option ℤ) (answer : Option Joined) (stamp : ℕ) (before after : EndView) → stamp < 2 ^ 62 →
-    IsOffered ask stamp answer before after → IfSome answer HasStamps
+    IsOffered ask stamp answer before after → IfSome answer StampsFit
 offered_stamps ask None stamp before after low offered = tt
 offered_stamps None (Some j) stamp before after low offered = absurd (none-some j (sym (offered.alone refl)))
 offered_stamps (Some v) (Some j) stamp before after low offered =

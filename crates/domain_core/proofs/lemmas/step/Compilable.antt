@@ -17,7 +17,7 @@ use Rattle.kernel_terms.specs.WellFormed.{Scope, fits_statement, can_use, is_emi
 use Rattle.tick_tree.specs.definitions.Weight as weight
 use Rattle.cell_core.specs.declared.moves.Side.TheVariants.{Sender, Receiver}
 use Rattle.domain_core.specs.definitions.runs.Systems.{setup_of, IsSystem}
-use Rattle.domain_core.specs.definitions.step.Built.{is_built, size_of, most_size}
+use Rattle.domain_core.specs.definitions.step.Built.{is_built}
 use Rattle.domain_core.specs.definitions.step.Compiling.{CanCompile}
 use Rattle.domain_core.specs.definitions.step.Domains.{ends_of}
 use Rattle.domain_core.specs.definitions.runs.Systems.{source_of}
@@ -98,7 +98,6 @@ can_build system d term can is =
       waits = subst ends.LoopsWait s can.loops;
       emits = emits_below (tables_of system) d p (fits_whole system d p can.within s);
       copies = omega (arith, few, light);
-      size = subst (λ x. size_of x ≤ most_size) s can.size;
     }
 
 pub ruleset can_builds = (is_built_term, can_build)

@@ -5,36 +5,39 @@ use Rattle.std.specs.Global.{Global}
 use Rattle.std.specs.Int.Signed.{le_z_yes, ◌≤ℤ◌}
 use Rattle.std.proofs.lemmas.Bool.{true≢false}
 use Rattle.std.proofs.lemmas.List.{length-replicate, length-map}
+use Rattle.std.proofs.lemmas.List.FromFn.{length-range_with_len, get_or-range_with_len}
 use Rattle.java_values.specs.declared.kind.Kind.{Kind}
 use Rattle.java_values.specs.declared.kind.Kind.TheVariants as kind
 use Rattle.java_values.specs.Kinds.{IsInRange, lowest, highest}
 use Rattle.kernel_terms.specs.declared.system.System.{System}
 use Rattle.kernel_terms.specs.declared.tables.Tables.{Tables}
 use Rattle.kernel_terms.specs.Systems.{tables_of, domains_of}
-use Rattle.kernel_terms.specs.TableEntries.{channel_at, is_interface_of, numbers_where}
+use Rattle.kernel_terms.specs.TableEntries.{channel_at, interface_of, received_by}
 use Rattle.kernel_terms.specs.WellFormed.{Scope, fits_statement, same_kind}
 use Rattle.tick_log.specs.definitions.Containers.{LogState}
 use Rattle.kernel_terms.specs.Marks.{Going}
-use Rattle.kernel_rules.specs.definitions.Registers.{domain_registers, variables_held, values_held, last_held}
+use Rattle.kernel_rules.specs.definitions.Registers.{first_last, domain_registers, variables_held, values_held, last_held}
 use Rattle.domain_core.specs.declared.step.ends_of.EndJoin.{EndJoin}
 use Rattle.domain_core.specs.step.StepParts.{FitsAfter, pending}
 use Rattle.domain_core.specs.declared.step.parts.Program.{Program}
 use Rattle.domain_core.specs.declared.step.parts.State.{State}
 use Rattle.domain_core.specs.declared.step.parts.Scratch.{Scratch}
 use Rattle.domain_core.specs.equations.BuiltForms.{Plain, Nothing, Pause, Emit, Seq, Loop, Send, Receive, whole}
+use Rattle.domain_core.specs.equations.BuiltRegisters.{registers}
 use Rattle.domain_core.specs.equations.Codes.{AreCodes}
 use Rattle.domain_core.specs.equations.SendsFit.{SendsFit}
 use Rattle.domain_core.specs.definitions.step.Domains.{ends_of, ends_from, joins_at, register_at, state_held}
 use Rattle.domain_core.specs.definitions.runs.Systems.{source_of}
 use Rattle.domain_core.specs.definitions.step.EndRegisters.{last_places}
-use Rattle.domain_core.specs.equations.Places.{places_of}
+use Rattle.domain_core.specs.equations.Places.{plain_places}
 use Rattle.domain_core.specs.step.Answers.{newest_of}
 use Rattle.domain_core.specs.step.JoinLists.{joins_in}
-use Rattle.domain_core.specs.step.EndPlaces.{PlacesFit, LastFits}
+use Rattle.domain_core.specs.step.EndPlaces.{PlacesFit, LastFits, HaveOwnRegisters}
 use Rattle.domain_core.specs.definitions.step.Compiling.{CanCompile, IsCompiled}
 use Rattle.domain_core.specs.step.DomainKeeps.{HasScratch, Keeps}
 use Rattle.domain_core.proofs.lemmas.step.PhaseStates.{places_fit, received_some}
 use Rattle.domain_core.proofs.lemmas.step.Compilable.{channels_apart, has_ends}
+use Rattle.domain_core.proofs.lemmas.step.JoinPasses.{places_rise}
 use Rattle.domain_core.proofs.lemmas.step.LastValues.{count_registers, last_fits, variables_zero, values_zero, last_zero}
 use Rattle.domain_core.proofs.lemmas.equations.BuiltRules.{registers-whole}
 use Rattle.domain_core.proofs.lemmas.step.StateAnswers.{same_state}
@@ -74,6 +77,17 @@ system_sends_fit system d p less is =
     let scope : Scope = record { domain = 0 + d; traps = 0; locals = [] } in
     sends_fit t scope p (subst (λ s. fits_statement t scope s ≡ true) is (source_fits system d less))
 
+-- the registers of the places are the statement's, and those of the last values are behind them
+own_registers : (tables : Tables) (d : ℕ) (p : Plain) → HaveOwnRegisters (plain_places (ends_of tables d) p 0) (last_places tables d (whole p))
+own_registers tables d p = record {
+  bound = 0 + registers p;
+  rise = places_rise (ends_of tables d) p 0;
+  behind = λ i less.
+      let count = length (received_by tables d) in
+      let low : i < count = omega (arith, less, length-range_with_len (first_last tables d (whole p)) count) in
+      omega (arith, get_or-range_with_len (first_last tables d (whole p)) count i 0 low, registers-whole tables p);
+}
+
 no_joins : (t n : ℕ) → newest_of t (replicate n []) ≡ 0
 no_joins t zero = refl
 no_joins t (suc n) = let i = no_joins t n in omega (arith, i)
@@ -95,14 +109,14 @@ zero_at (suc n) (suc k) = zero_at n k
 
 module _ (system : System) (d : ℕ) (program : Program) (state : State) (scratch : Scratch) (log : LogState) (source : Plain)
     (can : CanCompile system d) (source_is : source_of system d ≡ whole source)
-    (are : AreCodes program.codes source (length (tables_of system).signals)) (places : program.codes.places.items ≡ places_of (ends_of (tables_of system) d) source 0)
+    (are : AreCodes program.codes source (length (tables_of system).signals) (interface_of (tables_of system) d)) (places : program.codes.places.items ≡ plain_places (ends_of (tables_of system) d) source 0)
     (last : program.last.items ≡ last_places (tables_of system) d (whole source))
-    (ends : program.ends.items ≡ ends_from d 0 (tables_of system).channels) (signals : program.signals.items ≡ numbers_where (is_interface_of d) 0 (tables_of system).signals)
+    (ends : program.ends.items ≡ ends_from d 0 (tables_of system).channels)
     (registers : state.registers.items ≡ replicate (length (domain_registers (tables_of system) d (whole source))) (pos 0))
     (standing : state.standing.items ≡ replicate (length program.ends.items) false) (joins : joins_in state.joins.items ≡ replicate (length program.ends.items) [])
     (stamp : state.stamp ≡ 0) (cause : state.cause ≡ 0) (going : state.stopped ≡ false)
-    (memory : HasScratch program scratch (length (tables_of system).signals))
-    (logged : log ≡ record { entries = []; mark = Going; signals = length program.signals.items; room = 0 }) where
+    (memory : HasScratch program scratch)
+    (logged : log ≡ record { entries = []; mark = Going; signals = length (interface_of (tables_of system) d); room = 0 }) where
   count : length state.registers.items ≡ length (domain_registers (tables_of system) d (whole source))
   count = ap length registers ∙ length-replicate (length (domain_registers (tables_of system) d (whole source))) (pos 0)
 
@@ -115,7 +129,7 @@ module _ (system : System) (d : ℕ) (program : Program) (state : State) (scratc
       let off : (k : ℕ) → get_or state.standing.items k false ≡ false = λ k. ap (λ l. get_or l k false) standing ∙ false_at (length program.ends.items) k in
       record {
         source = source;
-        is_program = record { statement = source_is; are = are; ends = ends; places = places; last = last; signals = signals; pure = can.pure; sends = system_sends_fit system d source can.within source_is; has_ends = has_ends system d source can.within source_is };
+        is_program = record { statement = source_is; are = are; ends = ends; places = places; last = last; pure = can.pure; sends = system_sends_fit system d source can.within source_is; has_ends = has_ends system d source can.within source_is };
         memory = memory;
         is_state = record {
           registers = count;
@@ -131,11 +145,14 @@ module _ (system : System) (d : ℕ) (program : Program) (state : State) (scratc
         parts = record {
           standing = ap length standing ∙ length-replicate (length program.ends.items) false;
           lists = list_count;
-          places = subst (λ l. PlacesFit l (length state.registers.items)) (sym places)
-              (places_fit (ends_of (tables_of system) d) source 0 (length state.registers.items) (omega (arith, count, count_registers (tables_of system) d (whole source), registers-whole (tables_of system) source))
-              (λ receives. let some = received_some (tables_of system) d source (channels_apart system) (has_ends system d source can.within source_is) receives in omega (arith, some, count, count_registers (tables_of system) d (whole source), registers-whole (tables_of system) source)));
+          places = subst (λ l. PlacesFit l (length program.ends.items) (length state.registers.items)) (sym places)
+              (subst (λ l. PlacesFit (plain_places (ends_of (tables_of system) d) source 0) (length l) (length state.registers.items)) (sym ends)
+              (places_fit (ends_of (tables_of system) d) source 0 (length state.registers.items) (has_ends system d source can.within source_is) (omega (arith, count, count_registers (tables_of system) d (whole source), registers-whole (tables_of system) source))
+              (λ receives. let some = received_some (tables_of system) d source (channels_apart system) (has_ends system d source can.within source_is) receives in omega (arith, some, count, count_registers (tables_of system) d (whole source), registers-whole (tables_of system) source))));
           last = subst (λ l. LastFits l program.ends.items (length state.registers.items)) (sym last)
               (subst (λ l. LastFits (last_places (tables_of system) d (whole source)) l (length state.registers.items)) (sym ends) (last_fits (tables_of system) d (whole source) (channels_apart system) (length state.registers.items) count));
+          own = subst (λ l. HaveOwnRegisters l program.last.items) (sym places)
+              (subst (HaveOwnRegisters (plain_places (ends_of (tables_of system) d) source 0)) (sym last) (own_registers (tables_of system) d source));
           counts = λ k less.
               let here = ap (λ l. length (joins_at l k)) joins ∙ ap length (empty_at (length program.ends.items) k) in
               let free = ap pending (off k) in
@@ -143,14 +160,14 @@ module _ (system : System) (d : ℕ) (program : Program) (state : State) (scratc
           memory = λ k v less. omega (arith, none, no_room);
           limit = omega (arith, cause);
         };
-        log_signals = ap (λ (l : LogState). l.signals) logged;
+        log_signals = ap (λ (l : LogState). l.signals) logged ∙ sym are.signal_count;
       }
 
   is_compiled : IsCompiled system d (view_of system d state log)
   is_compiled = record {
     of_system = refl;
     number = refl;
-    log = logged ∙ ap (λ n. record { entries = []; mark = Going; signals = n; room = 0 }) (ap length signals);
+    log = logged;
     spare = ap (λ (l : LogState). l.room) logged;
     going = going;
     registers = registers ∙ ap (λ p. replicate (length (domain_registers (tables_of system) d p)) (pos 0)) (sym source_is);

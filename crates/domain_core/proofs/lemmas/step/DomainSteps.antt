@@ -1,6 +1,6 @@
 -- A step of a domain, from what its phases do.
-use Rattle.std.proofs.Common.{◌≡◌, ℕ, zero, suc, ◌+◌, ◌-◌, ◌<◌, ◌≤◌, ◌^◌, ℤ, pos, Bool, true, false, cond, List, [], ◌∷◌, ◌++◌, length, get_or, map, Option, Some, None, Vec, refl, sym, ap, ◌∙◌, subst, inl, inr, arith, add-one}
-use Rattle.std.specs.Prelude.{IfSome, IsSomeAnd, slice_index_or, replicate, max, vec_len, vec_capacity}
+use Rattle.std.proofs.Common.{◌≡◌, ℕ, zero, suc, ◌+◌, ◌-◌, ◌<◌, ◌≤◌, ◌^◌, ℤ, pos, Bool, true, false, cond, List, [], ◌∷◌, ◌++◌, length, get_or, Option, Some, None, Vec, refl, sym, ap, ◌∙◌, subst, inl, inr, arith, add-one}
+use Rattle.std.specs.Prelude.{IfSome, IsSomeAnd, replicate, max, vec_len, vec_capacity}
 use Rattle.std.specs.Global.{Global}
 use Rattle.std.proofs.lemmas.Bool.{true≢false}
 use Rattle.std.proofs.lemmas.Option.{none-some}
@@ -29,8 +29,8 @@ use Rattle.domain_core.specs.declared.step.parts.State.{State}
 use Rattle.domain_core.specs.declared.step.parts.Scratch.{Scratch}
 use Rattle.domain_core.specs.equations.BuiltForms.{Plain, whole}
 use Rattle.domain_core.specs.equations.BuiltRegisters.{HoldsLiteral}
-use Rattle.domain_core.specs.equations.Codes.{TellsTick, AreCodes}
-use Rattle.domain_core.specs.equations.Places.{places_of}
+use Rattle.domain_core.specs.equations.Codes.{TellsTick}
+use Rattle.domain_core.specs.equations.Places.{plain_places}
 use Rattle.domain_core.specs.definitions.step.EndCalls.{end_at, recalls, offers, stands_after, CanOffer, RecallsAll, OffersAll}
 use Rattle.domain_core.specs.definitions.step.EndRegisters.{end_places, last_places, registers_joined}
 use Rattle.domain_core.specs.definitions.runs.Stamps.{IsTickStamp}
@@ -68,7 +68,7 @@ view_of system d state log = record {
 }
 
 -- the interface signals of a domain are signals
-numbers_below : {X : Type 0} (is : X → Bool) (n : ℕ) (xs : List X) (k e : ℕ) → k < length (numbers_where is n xs) → get_or (numbers_where is n xs) k e < n + length xs
+pub numbers_below : {X : Type 0} (is : X → Bool) (n : ℕ) (xs : List X) (k e : ℕ) → k < length (numbers_where is n xs) → get_or (numbers_where is n xs) k e < n + length xs
 numbers_below is n [] k e less = absurd (omega (arith, less))
 numbers_below is n (x ∷ xs) k e less = here (is x) k (λ i l. numbers_below is (suc n) xs i e l) less
   where
@@ -187,19 +187,19 @@ module _ {S : Type 0} (moved : S → ℕ → CellMove → Option Joined → S �
   -- the places and registers of the program are those of the source
   registers_are : (rs : List (Option Joined)) (r : ℕ → ℤ) →
       registers_joined program.codes.places.items program.last.items program.ends.items rs (length program.ends.items) r
-      ≡ registers_joined (places_of ends source 0) (last_places tables d (whole source)) ends rs (length ends) r
+      ≡ registers_joined (plain_places ends source 0) (last_places tables d (whole source)) ends rs (length ends) r
   registers_are rs r =
       ap (λ l. registers_joined l program.last.items program.ends.items rs (length program.ends.items) r) keeps.is_program.places
-      ∙ ap (λ l. registers_joined (places_of ends source 0) l program.ends.items rs (length program.ends.items) r) keeps.is_program.last
-      ∙ ap (λ l. registers_joined (places_of ends source 0) (last_places tables d (whole source)) l rs (length l) r) same_ends
+      ∙ ap (λ l. registers_joined (plain_places ends source 0) l program.ends.items rs (length program.ends.items) r) keeps.is_program.last
+      ∙ ap (λ l. registers_joined (plain_places ends source 0) (last_places tables d (whole source)) l rs (length l) r) same_ends
 
   registers_are_with : (rs : List (Option Joined)) (registers : List ℤ) →
-      registers_joined (places_of ends source 0) (last_places tables d (whole source)) ends rs (length ends) (register_at registers) ≡ registers_with v0 rs registers
+      registers_joined (plain_places ends source 0) (last_places tables d (whole source)) ends rs (length ends) (register_at registers) ≡ registers_with v0 rs registers
   registers_are_with rs registers =
       ap (λ l. registers_joined l (last_places tables d (whole source)) ends rs (length ends) (register_at registers)) (sym (places_same tables ends source 0))
       ∙ ap (λ p. registers_joined (end_places tables ends p 0) (last_places tables d p) ends rs (length ends) (register_at registers)) (sym keeps.is_program.statement)
 
-  registers_here : r1 ≡ registers_joined (places_of ends source 0) (last_places tables d (whole source)) ends answers (length ends) r0
+  registers_here : r1 ≡ registers_joined (plain_places ends source 0) (last_places tables d (whole source)) ends answers (length ends) r0
   registers_here = applies.registers ∙ registers_are answers r0
 
   fits0 : FitsAfter tables source t r0
@@ -247,8 +247,8 @@ module _ {S : Type 0} (moved : S → ℕ → CellMove → Option Joined → S �
       let old : k < length s0.joins.items = omega (arith, less, keeps.parts.lists) in
       omega (arith, keeps.parts.memory k v less, applies.memory k v old)
 
-  places_here : PlacesFit program.codes.places.items (length s1.registers.items)
-  places_here = subst (PlacesFit program.codes.places.items) (sym applies.register_count) keeps.parts.places
+  places_here : PlacesFit program.codes.places.items (length program.ends.items) (length s1.registers.items)
+  places_here = subst (PlacesFit program.codes.places.items (length program.ends.items)) (sym applies.register_count) keeps.parts.places
 
   last_here : LastFits program.last.items program.ends.items (length s1.registers.items)
   last_here = subst (LastFits program.last.items program.ends.items) (sym applies.register_count) keeps.parts.last
@@ -256,7 +256,7 @@ module _ {S : Type 0} (moved : S → ℕ → CellMove → Option Joined → S �
   module _ (stopped : State) (registers-whole : stopped.registers.items ≡ s1.registers.items) (lists_same : stopped.joins.items ≡ s1.joins.items) (stamp_same : stopped.stamp ≡ s1.stamp)
       (cause_same : stopped.cause ≡ s1.cause) (is_stopped : stopped.stopped ≡ true) (none_stands : (k : ℕ) → get_or stopped.standing.items k false ≡ false)
       (standing_count : length stopped.standing.items ≡ length s0.standing.items) where
-    pub stop_keeps : (scratch1 : Scratch) → HasScratch program scratch1 (length (tables_of system).signals) → Keeps system d program stopped scratch1 log
+    pub stop_keeps : (scratch1 : Scratch) → HasScratch program scratch1 → Keeps system d program stopped scratch1 log
     stop_keeps scratch1 memory = record {
       source = source;
       is_program = keeps.is_program;
@@ -273,8 +273,9 @@ module _ {S : Type 0} (moved : S → ℕ → CellMove → Option Joined → S �
       parts = record {
         standing = standing_count ∙ keeps.parts.standing;
         lists = ap length lists_same ∙ applies.lists ∙ keeps.parts.lists;
-        places = subst (λ l. PlacesFit program.codes.places.items (length l)) (sym registers-whole) places_here;
+        places = subst (λ l. PlacesFit program.codes.places.items (length program.ends.items) (length l)) (sym registers-whole) places_here;
         last = subst (λ l. LastFits program.last.items program.ends.items (length l)) (sym registers-whole) last_here;
+        own = keeps.parts.own;
         counts = λ k less.
             let here = ap (λ l. length (joins_at (joins_in l) k)) lists_same in
             let free = ap pending (none_stands k) in
@@ -322,27 +323,25 @@ module _ {S : Type 0} (moved : S → ℕ → CellMove → Option Joined → S �
         no_offers zero = refl
         no_offers (suc n) = Through-append moved middle middle middle (offers ends [] stamp [] n) [] (no_offers n) refl
 
-  module _ (s2 s3 : State) (log1 : LogState) (present shown : List Bool) (zeros : List ℤ) (asks : List (Option ℤ)) (replies : List (Option Joined)) (last : S) (ended : Bool) (stamp : ℕ)
-      (room : 1 ≤ log.room) (present_count : length present ≡ length (tables_of system).signals)
+  module _ (s2 s3 : State) (log1 : LogState) (present : List Bool) (zeros : List ℤ) (asks : List (Option ℤ)) (replies : List (Option Joined)) (last : S) (ended : Bool) (stamp : ℕ)
+      (room : 1 ≤ log.room)
       (made : MakesCodeTick program.codes (length log.entries) (register_at s1.registers.items) (register_at s2.registers.items) present ended)
       (register_count : length s2.registers.items ≡ length s1.registers.items)
       (lists2 : s2.joins.items ≡ s1.joins.items) (stamp2 : s2.stamp ≡ stamp) (cause2 : s2.cause ≡ stamp) (stopped2 : s2.stopped ≡ s1.stopped)
       (standing2 : length s2.standing.items ≡ length program.ends.items)
       (is_stamp : stamp ≡ s1.cause + 1) (low : stamp < 2 ^ 62)
-      (picks : shown ≡ map (λ s. slice_index_or present s false) program.signals.items) (all_zero : zeros ≡ replicate (length program.signals.items) (pos 0))
-      (logged : log1 ≡ record { entries = log.entries ++ record { stamp = stamp; statuses = statuses_of shown zeros } ∷ []; mark = cond ended Ended Going; signals = log.signals; room = log.room - 1 })
+      (all_zero : zeros ≡ replicate program.codes.signals (pos 0))
+      (logged : log1 ≡ record { entries = log.entries ++ record { stamp = stamp; statuses = statuses_of present zeros } ∷ []; mark = cond ended Ended Going; signals = log.signals; room = log.room - 1 })
       (asked : (k : ℕ) → k < length program.ends.items → get_or asks k None ≡ cond ended None (ask_of program.codes.places.items k (end_at program.ends.items k).side (register_at s2.registers.items)))
     where
       abbrev r2 : ℕ → ℤ
       r2 = register_at s2.registers.items
 
-      tells : TellsTick tables (whole source) (length (tables_of system).signals) (statement_held tables (whole source) t Going r1) present r2 ended
-      tells =
-          subst (λ n. TellsTick tables (whole source) n (statement_held tables (whole source) t Going r1) present r2 ended) present_count
-          (made.tells tables source (subst (λ n. AreCodes program.codes source n) (sym present_count) keeps.is_program.are) fits1)
+      tells : TellsTick tables (whole source) (length (tables_of system).signals) (interface_of tables d) (statement_held tables (whole source) t Going r1) present r2 ended
+      tells = made.tells tables source (length (tables_of system).signals) (interface_of tables d) keeps.is_program.are fits1
 
       literals : HoldsLiteral source 0 r2
-      literals = made.literals tables source (subst (λ n. AreCodes program.codes source n) (sym present_count) keeps.is_program.are) fits1
+      literals = made.literals tables source (length (tables_of system).signals) (interface_of tables d) keeps.is_program.are fits1
 
       abbrev last1 : ℕ → ℤ
       last1 = last_held tables d (whole source) r1
@@ -353,13 +352,13 @@ module _ {S : Type 0} (moved : S → ℕ → CellMove → Option Joined → S �
       abbrev after : DomainState
       after = after_tick tables d source (statement_held tables (whole source) t Going r1) present r2 ended keeps.is_program.pure tells last1 variables1 t
 
-      statuses_are : statuses_of shown (replicate (length (interface_of tables d)) (pos 0)) ≡ statuses_of shown zeros
-      statuses_are = ap (λ n. statuses_of shown (replicate n (pos 0))) (ap length (sym keeps.is_program.signals)) ∙ ap (statuses_of shown) (sym all_zero)
+      statuses_are : statuses_of present (replicate (length (interface_of tables d)) (pos 0)) ≡ statuses_of present zeros
+      statuses_are = ap (λ n. statuses_of present (replicate n (pos 0))) (sym keeps.is_program.are.signal_count) ∙ ap (statuses_of present) (sym all_zero)
 
-      shows : AreStatuses (interface_signals tables d) (statuses_of shown zeros)
+      shows : AreStatuses (interface_signals tables d) (statuses_of present zeros)
       shows =
           subst (AreStatuses (interface_signals tables d)) statuses_are
-          (statuses_fit tables d shown keeps.is_program.pure (ap length picks ∙ length-map program.signals.items (λ s. slice_index_or present s false) ∙ ap length keeps.is_program.signals))
+          (statuses_fit tables d present keeps.is_program.pure (ap length tells.shows ∙ length-map (interface_of tables d) (λ s. (tells.env s).present)))
 
       before_is :
           ◌≡◌ {A = DomainState} (record { statement = statement_held tables (whole source) t Going r1; variables = variables1; values = λ s. pos 0; last = last1; ticks = t; mark = Going }) (state_with v0 answers (state_of v0))
@@ -367,12 +366,11 @@ module _ {S : Type 0} (moved : S → ℕ → CellMove → Option Joined → S �
           ap (λ v. record { statement = statement_held tables (whole source) t Going r1; variables = variables1; values = v; last = last1; ticks = t; mark = Going }) (sym (values_none tables d (whole source) r1 keeps.is_program.pure))
           ∙ found_here
 
-      legal : IsLegalTick tables no_inputs d (state_with v0 answers (state_of v0)) (statuses_of shown zeros) after
+      legal : IsLegalTick tables no_inputs d (state_with v0 answers (state_of v0)) (statuses_of present zeros) after
       legal =
-          subst (λ x. IsLegalTick tables no_inputs d x (statuses_of shown zeros) after) before_is
+          subst (λ x. IsLegalTick tables no_inputs d x (statuses_of present zeros) after) before_is
           (subst (λ x. IsLegalTick tables no_inputs d (record { statement = statement_held tables (whole source) t Going r1; variables = variables1; values = λ s. pos 0; last = last1; ticks = t; mark = Going }) x after) statuses_are
-          (tick_is_legal tables d source (statement_held tables (whole source) t Going r1) present r2 ended keeps.is_program.pure tells last1 variables1 t shown
-          (picks ∙ ap (λ l. map (λ s. slice_index_or present s false) l) keeps.is_program.signals) (interface_within tables d)))
+          (tick_is_legal tables d source (statement_held tables (whole source) t Going r1) present r2 ended keeps.is_program.pure tells last1 variables1 t (interface_within tables d)))
 
       fits2 : ended ≡ false → FitsAfter tables source (suc t) r2
       fits2 is = (tells.fits is, literals)
@@ -403,10 +401,10 @@ module _ {S : Type 0} (moved : S → ℕ → CellMove → Option Joined → S �
         fit = λ is. subst (λ p. FitRegisters tables p 0 r2) (sym keeps.is_program.statement) (tells.fits (not_over ended is));
       }
 
-      asked_here : (k : ℕ) → k < length ends → get_or asks k None ≡ cond ended None (ask_of (places_of ends source 0) k (end_at ends k).side r2)
+      asked_here : (k : ℕ) → k < length ends → get_or asks k None ≡ cond ended None (ask_of (plain_places ends source 0) k (end_at ends k).side r2)
       asked_here k less =
           asked k (omega (arith, less, same_count)) ∙ ap (λ l. cond ended None (ask_of l k (end_at program.ends.items k).side r2)) keeps.is_program.places
-          ∙ ap (λ l. cond ended None (ask_of (places_of ends source 0) k (end_at l k).side r2)) same_ends
+          ∙ ap (λ l. cond ended None (ask_of (plain_places ends source 0) k (end_at l k).side r2)) same_ends
 
       asks_here : (k : ℕ) → k < length ends → IsAsk (end_at ends k) after.statement (get_or asks k None)
       asks_here k less = subst (IsAsk (end_at ends k) after.statement) (sym (asked_here k less)) (asked_after tables d source k r2 ended less has tells.fits)
@@ -415,9 +413,9 @@ module _ {S : Type 0} (moved : S → ℕ → CellMove → Option Joined → S �
       ask_value : (k : ℕ) → k < length ends → (a : Option ℤ) (b : Bool) → ended ≡ b → get_or asks k None ≡ a → IfSome a (ValueFits (end_at ends k).side (channel_at tables (end_at ends k).channel).kind)
       ask_value k less None b is asks_a = tt
       ask_value k less (Some v) true is asks_a =
-          absurd (none-some v (sym (ap (λ e. cond e None (ask_of (places_of ends source 0) k (end_at ends k).side r2)) is) ∙ sym (asked_here k less) ∙ asks_a))
+          absurd (none-some v (sym (ap (λ e. cond e None (ask_of (plain_places ends source 0) k (end_at ends k).side r2)) is) ∙ sym (asked_here k less) ∙ asks_a))
       ask_value k less (Some v) false is asks_a =
-          ask_fits tables ends k r2 v source 0 literals keeps.is_program.sends has (sym (ap (λ e. cond e None (ask_of (places_of ends source 0) k (end_at ends k).side r2)) is) ∙ sym (asked_here k less) ∙ asks_a)
+          ask_fits tables ends k r2 v source 0 literals keeps.is_program.sends has (sym (ap (λ e. cond e None (ask_of (plain_places ends source 0) k (end_at ends k).side r2)) is) ∙ sym (asked_here k less) ∙ asks_a)
 
       pub can_offer : (k : ℕ) → k < length program.ends.items → CanOffer (end_at program.ends.items k) (get_or asks k None) (view middle k)
       can_offer k within =
@@ -435,8 +433,8 @@ module _ {S : Type 0} (moved : S → ℕ → CellMove → Option Joined → S �
                 (subst (λ x. IfSome (get_or asks k None) (ValueFits (end_at ends k).side x)) (sym kind) (ask_value k less (get_or asks k None) ended refl refl));
           }
 
-      pub places_ready : PlacesFit program.codes.places.items (length s2.registers.items)
-      places_ready = subst (PlacesFit program.codes.places.items) (sym register_count) places_here
+      pub places_ready : PlacesFit program.codes.places.items (length program.ends.items) (length s2.registers.items)
+      places_ready = subst (PlacesFit program.codes.places.items (length program.ends.items)) (sym register_count) places_here
 
       pub last_ready : LastFits program.last.items program.ends.items (length s2.registers.items)
       last_ready = subst (LastFits program.last.items program.ends.items) (sym register_count) last_here
@@ -456,18 +454,18 @@ module _ {S : Type 0} (moved : S → ℕ → CellMove → Option Joined → S �
         offers_here = subst (λ l. OffersAll moved count view l asks stamp replies (length l) middle last) same_ends offered
 
         count_made : length log1.entries ≡ suc t
-        count_made = ap (λ (l : LogState). length l.entries) logged ∙ length-append log.entries (record { stamp = stamp; statuses = statuses_of shown zeros } ∷ []) ∙ add-one t
+        count_made = ap (λ (l : LogState). length l.entries) logged ∙ length-append log.entries (record { stamp = stamp; statuses = statuses_of present zeros } ∷ []) ∙ add-one t
 
         joins_made : joins3 ≡ add_joins (suc t) replies (length ends) joins1
         joins_made =
             applies2.joins ∙ ap (λ n. add_joins n replies (length program.ends.items) (joins_in s2.joins.items)) count_made
             ∙ ap (λ n. add_joins (suc t) replies n (joins_in s2.joins.items)) same_count ∙ ap (λ l. add_joins (suc t) replies (length ends) (joins_in l)) lists2
 
-        registers_made : register_at s3.registers.items ≡ registers_joined (places_of ends source 0) (last_places tables d (whole source)) ends replies (length ends) r2
+        registers_made : register_at s3.registers.items ≡ registers_joined (plain_places ends source 0) (last_places tables d (whole source)) ends replies (length ends) r2
         registers_made = applies2.registers ∙ registers_are replies r2
 
         no_asks : ended ≡ true → (k : ℕ) → k < length ends → get_or asks k None ≡ None
-        no_asks is k less = asked_here k less ∙ ap (λ e. cond e None (ask_of (places_of ends source 0) k (end_at ends k).side r2)) is
+        no_asks is k less = asked_here k less ∙ ap (λ e. cond e None (ask_of (plain_places ends source 0) k (end_at ends k).side r2)) is
 
         no_replies : ended ≡ true → (k : ℕ) → k < length ends → get_or replies k None ≡ None
         no_replies is k less = (offers_here.passed k less).alone (no_asks is k less)
@@ -501,7 +499,7 @@ module _ {S : Type 0} (moved : S → ℕ → CellMove → Option Joined → S �
           next = stamp_here stamp is_stamp;
           goes = inl (record {
             limit = low;
-            statuses = statuses_of shown zeros;
+            statuses = statuses_of present zeros;
             after = after;
             legal = legal;
             shows = shows;
@@ -557,7 +555,7 @@ module _ {S : Type 0} (moved : S → ℕ → CellMove → Option Joined → S �
         not_ended k less is true over =
             absurd (true≢false (sym is ∙ standing_here k less ∙ ap (λ a. stands_after a (get_or replies k None)) (no_asks over k less)))
 
-        pub tick_keeps : (scratch1 : Scratch) → HasScratch program scratch1 (length (tables_of system).signals) → Keeps system d program s3 scratch1 log1
+        pub tick_keeps : (scratch1 : Scratch) → HasScratch program scratch1 → Keeps system d program s3 scratch1 log1
         tick_keeps scratch1 memory = record {
           source = source;
           is_program = keeps.is_program;
@@ -583,8 +581,9 @@ module _ {S : Type 0} (moved : S → ℕ → CellMove → Option Joined → S �
           parts = record {
             standing = standing_count;
             lists = applies2.lists ∙ ap length lists2 ∙ applies.lists ∙ keeps.parts.lists;
-            places = subst (PlacesFit program.codes.places.items) (sym applies2.register_count) places_ready;
+            places = subst (PlacesFit program.codes.places.items (length program.ends.items)) (sym applies2.register_count) places_ready;
             last = subst (LastFits program.last.items program.ends.items) (sym applies2.register_count) last_ready;
+            own = keeps.parts.own;
             counts = λ k less.
                 let within : k < length ends = omega (arith, less, same_count) in
                 let here = ap (λ l. length (joins_at l k)) joins_made in

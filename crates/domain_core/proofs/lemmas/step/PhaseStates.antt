@@ -21,7 +21,7 @@ use Rattle.kernel_terms.specs.Marks.{Going, Ended}
 use Rattle.domain_core.specs.declared.step.ends_of.EndOf.{EndOf}
 use Rattle.domain_core.specs.equations.BuiltForms.{Plain, Nothing, Pause, Emit, Seq, Loop, Send, Receive, whole}
 use Rattle.domain_core.specs.equations.BuiltRegisters.{registers, HoldsLiteral}
-use Rattle.domain_core.specs.equations.Places.{places_of}
+use Rattle.domain_core.specs.equations.Places.{plain_places}
 use Rattle.domain_core.specs.definitions.step.EndCalls.{end_at, stands_after, IsRecalled, IsOffered}
 use Rattle.domain_core.specs.definitions.step.EndRegisters.{end_number, last_places, registers_joined}
 use Rattle.domain_core.specs.step.EndPlaces.{waits_at, value_at, ask_of, PlaceFits, PlacesFit, HasEnds}
@@ -41,13 +41,13 @@ module _ (tables : Tables) (d : ℕ) (p : Plain) (channels : (c : ℕ) → c < l
   own = ends_of tables d
 
   abbrev joined : List (Option Joined) → (ℕ → ℤ) → ℕ → ℤ
-  joined answers r = registers_joined (places_of (ends_of tables d) p 0) (last_places tables d (whole p)) (ends_of tables d) answers (length (ends_of tables d)) r
+  joined answers r = registers_joined (plain_places (ends_of tables d) p 0) (last_places tables d (whole p)) (ends_of tables d) answers (length (ends_of tables d)) r
 
   -- the answers of the own, in a domain that goes on
   pub answers_state : (answers : List (Option Joined)) (ticks : ℕ) (r : ℕ → ℤ) → FitsAfter tables p ticks r → (ticks ≡ 0 → (k : ℕ) → k < length own → get_or answers k None ≡ None) →
       state_held tables d (whole p) ticks Going (joined answers r) ≡ with_answers own answers (length own) (state_held tables d (whole p) ticks Going r)
   answers_state answers zero r fits none =
-      ap (state_held tables d (whole p) 0 Going) (joined_none own answers (places_of own p 0) (last_places tables d (whole p)) (length own) r (none refl))
+      ap (state_held tables d (whole p) 0 Going) (joined_none own answers (plain_places own p 0) (last_places tables d (whole p)) (length own) r (none refl))
       ∙ sym (with_none own answers (length own) (state_held tables d (whole p) 0 Going r) (none refl))
   answers_state answers (suc t) r fits none = state_joins tables d p channels has answers (length own) t r fits.0.is_live (omega arith)
 
@@ -55,7 +55,7 @@ module _ (tables : Tables) (d : ℕ) (p : Plain) (channels : (c : ℕ) → c < l
   pub replies_state : (answers : List (Option Joined)) (t : ℕ) (ended : Bool) (r : ℕ → ℤ) → (ended ≡ false → FitsAfter tables p (suc t) r) → (ended ≡ true → (k : ℕ) → k < length own → get_or answers k None ≡ None) →
       state_held tables d (whole p) (suc t) (cond ended Ended Going) (joined answers r) ≡ with_answers own answers (length own) (state_held tables d (whole p) (suc t) (cond ended Ended Going) r)
   replies_state answers t true r fits none =
-      ap (state_held tables d (whole p) (suc t) Ended) (joined_none own answers (places_of own p 0) (last_places tables d (whole p)) (length own) r (none refl))
+      ap (state_held tables d (whole p) (suc t) Ended) (joined_none own answers (plain_places own p 0) (last_places tables d (whole p)) (length own) r (none refl))
       ∙ sym (with_none own answers (length own) (state_held tables d (whole p) (suc t) Ended r) (none refl))
   replies_state answers t false r fits none = answers_state answers (suc t) r (fits refl) (λ e. absurd (omega (arith, e)))
 
@@ -70,23 +70,23 @@ Receives (Loop p) = Receives p
 Receives (Receive c) = Unit {0}
 Receives _ = ⊥
 
-pub places_fit : (ends : List EndOf) (p : Plain) (n m : ℕ) → n + registers p ≤ m → (Receives p → n + registers p < m) → PlacesFit (places_of ends p n) m
-places_fit ends Nothing n m room more i q less = absurd (omega (arith, less))
-places_fit ends Pause n m room more i q less = absurd (omega (arith, less))
-places_fit ends (Emit s) n m room more i q less = absurd (omega (arith, less))
-places_fit ends (Seq a b) n m room more i q less =
-    both (places_of ends a n) (places_of ends b (n + registers a)) m i q (places_fit ends a n m (omega (arith, room)) (λ r. let x = more (inl r) in omega (arith, x)))
-    (places_fit ends b (n + registers a) m (omega (arith, room)) (λ r. let x = more (inr r) in omega (arith, x))) less
+pub places_fit : (ends : List EndOf) (p : Plain) (n m : ℕ) → HasEnds ends p → n + registers p ≤ m → (Receives p → n + registers p < m) → PlacesFit (plain_places ends p n) (length ends) m
+places_fit ends Nothing n m has room more i q less = absurd (omega (arith, less))
+places_fit ends Pause n m has room more i q less = absurd (omega (arith, less))
+places_fit ends (Emit s) n m has room more i q less = absurd (omega (arith, less))
+places_fit ends (Seq a b) n m has room more i q less =
+    both (plain_places ends a n) (plain_places ends b (n + registers a)) (length ends) m i q (places_fit ends a n m has.0 (omega (arith, room)) (λ r. let x = more (inl r) in omega (arith, x)))
+    (places_fit ends b (n + registers a) m has.1 (omega (arith, room)) (λ r. let x = more (inr r) in omega (arith, x))) less
   where
-    both : (xs ys : List EndPlace) (m i : ℕ) (q : EndPlace) → PlacesFit xs m → PlacesFit ys m → i < length (xs ++ ys) → PlaceFits m (get_or (xs ++ ys) i q)
-    both [] ys m i q x y less = y i q less
-    both (a ∷ xs) ys m zero q x y less = x 0 q (omega arith)
-    both (a ∷ xs) ys m (suc i) q x y less = both xs ys m i q (λ j r l. x (suc j) r (omega (arith, l))) y (omega (arith, less))
-places_fit ends (Loop a) n m room more i q less = places_fit ends a n m room more i q less
-places_fit ends (Send c v) n m room more zero q less = record { on = omega (arith, room); value = omega (arith, room) }
-places_fit ends (Send c v) n m room more (suc i) q less = absurd (omega (arith, less))
-places_fit ends (Receive c) n m room more zero q less = let x = more tt in record { on = omega (arith, room); value = omega (arith, x) }
-places_fit ends (Receive c) n m room more (suc i) q less = absurd (omega (arith, less))
+    both : (xs ys : List EndPlace) (e m i : ℕ) (q : EndPlace) → PlacesFit xs e m → PlacesFit ys e m → i < length (xs ++ ys) → PlaceFits e m (get_or (xs ++ ys) i q)
+    both [] ys e m i q x y less = y i q less
+    both (a ∷ xs) ys e m zero q x y less = x 0 q (omega arith)
+    both (a ∷ xs) ys e m (suc i) q x y less = both xs ys e m i q (λ j r l. x (suc j) r (omega (arith, l))) y (omega (arith, less))
+places_fit ends (Loop a) n m has room more i q less = places_fit ends a n m has room more i q less
+places_fit ends (Send c v) n m has room more zero q less = record { which = has.within; on = omega (arith, room); value = omega (arith, room) }
+places_fit ends (Send c v) n m has room more (suc i) q less = absurd (omega (arith, less))
+places_fit ends (Receive c) n m has room more zero q less = let x = more tt in record { which = has.within; on = omega (arith, room); value = omega (arith, x) }
+places_fit ends (Receive c) n m has room more (suc i) q less = absurd (omega (arith, less))
 
 -- a domain that receives has a register for a last value
 pub received_some : (tables : Tables) (d : ℕ) (p : Plain) → ((c : ℕ) → c < length tables.channels → (channel_at tables c).sender ≢ (channel_at tables c).receiver) → HasEnds (ends_of tables d) p → Receives p →
@@ -125,12 +125,12 @@ is_asked c k ends true false w is h = absurd (true≢false (sym h))
 is_asked c k ends false u w is h = absurd (true≢false (sym h))
 
 module _ (tables : Tables) (ends : List EndOf) (k : ℕ) (f : ℕ → ℤ) (v : ℤ) where
-  pub ask_fits : (p : Plain) (n : ℕ) → HoldsLiteral p n f → SendsFit tables p → HasEnds ends p → ask_of (places_of ends p n) k (end_at ends k).side f ≡ Some v →
+  pub ask_fits : (p : Plain) (n : ℕ) → HoldsLiteral p n f → SendsFit tables p → HasEnds ends p → ask_of (plain_places ends p n) k (end_at ends k).side f ≡ Some v →
       ValueFits (end_at ends k).side (channel_at tables (end_at ends k).channel).kind v
   ask_fits Nothing n h s has ask = absurd (none-some v ask)
   ask_fits Pause n h s has ask = absurd (none-some v ask)
   ask_fits (Emit t) n h s has ask = absurd (none-some v ask)
-  ask_fits (Seq p q) n h s has ask = elim (ask_or (places_of ends p n) (places_of ends q (n + registers p)) k (end_at ends k).side f v ask) [
+  ask_fits (Seq p q) n h s has ask = elim (ask_or (plain_places ends p n) (plain_places ends q (n + registers p)) k (end_at ends k).side f v ask) [
     | inl x ↦ ask_fits p n h.0 s.0 has.0 x
     | inr x ↦ ask_fits q (n + registers p) h.1 s.1 has.1 x
   ]
@@ -173,7 +173,7 @@ still_waits ends answers k (suc n) w x apart within room none waits =
 
 -- what the ends ask after a tick
 pub asked_after : (tables : Tables) (d : ℕ) (p : Plain) (k : ℕ) (new : ℕ → ℤ) (ended : Bool) → k < length (ends_of tables d) → HasEnds (ends_of tables d) p → (ended ≡ false → FitRegisters tables (whole p) 0 new) →
-    IsAsk (end_at (ends_of tables d) k) (cond ended rules.Nothing (residual tables (whole p) 0 new)) (cond ended None (ask_of (places_of (ends_of tables d) p 0) k (end_at (ends_of tables d) k).side new))
+    IsAsk (end_at (ends_of tables d) k) (cond ended rules.Nothing (residual tables (whole p) 0 new)) (cond ended None (ask_of (plain_places (ends_of tables d) p 0) k (end_at (ends_of tables d) k).side new))
 asked_after tables d p k new true within has fits = nothing_asks (end_at (ends_of tables d) k)
 asked_after tables d p k new false within has fits = asks tables (ends_of tables d) (ends_apart tables d) k within p 0 new has (fits refl).is_live (fits refl).apart
 

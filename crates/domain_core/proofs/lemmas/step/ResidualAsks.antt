@@ -14,7 +14,7 @@ use Rattle.tick_code.specs.declared.end_place.EndPlace.{EndPlace}
 use Rattle.domain_core.specs.declared.step.ends_of.EndOf.{EndOf}
 use Rattle.domain_core.specs.equations.BuiltForms.{Plain, Nothing, Pause, Emit, Seq, Loop, Send, Receive, whole}
 use Rattle.domain_core.specs.equations.BuiltRegisters.{registers}
-use Rattle.domain_core.specs.equations.Places.{places_of}
+use Rattle.domain_core.specs.equations.Places.{plain_places}
 use Rattle.domain_core.specs.definitions.step.EndCalls.{end_at}
 use Rattle.domain_core.specs.definitions.step.EndRegisters.{end_number}
 use Rattle.domain_core.specs.step.EndPlaces.{waits_at, value_at, ask_of, HasEnds}
@@ -118,7 +118,7 @@ module _ (tables : Tables) (ends : List EndOf) (k : ℕ) where
   e = end_at ends k
 
   -- a part that isn't live asks nothing
-  quiet : (p : Plain) (n : ℕ) (f : ℕ → ℤ) → live tables (whole p) n f ≡ false → ask_of (places_of ends p n) k e.side f ≡ None
+  quiet : (p : Plain) (n : ℕ) (f : ℕ → ℤ) → live tables (whole p) n f ≡ false → ask_of (plain_places ends p n) k e.side f ≡ None
   quiet Nothing n f off = refl
   quiet Pause n f off = refl
   quiet (Emit s) n f off = refl
@@ -126,7 +126,7 @@ module _ (tables : Tables) (ends : List EndOf) (k : ℕ) where
       let m = n + registers p in
       let second : live tables (whole q) m f ≡ false =
       subst (λ j. live tables (whole q) (n + j) f ≡ false) (registers-whole tables p) (right_off (live tables (whole p) n f) (live tables (whole q) (n + all_registers tables (whole p)) f) off) in
-      ask-first (places_of ends p n) (places_of ends q m) k e.side f (quiet q m f second)
+      ask-first (plain_places ends p n) (plain_places ends q m) k e.side f (quiet q m f second)
       ∙ quiet p n f (left_off (live tables (whole p) n f) (live tables (whole q) (n + all_registers tables (whole p)) f) off)
   quiet (Loop p) n f off = quiet p n f off
   quiet (Send c v) n f off =
@@ -142,34 +142,34 @@ module _ (tables : Tables) (ends : List EndOf) (ends_apart : AreApart ends) (k :
 
   -- a live statement asks where it waits
   pub asks : (p : Plain) (n : ℕ) (f : ℕ → ℤ) → HasEnds ends p → live tables (whole p) n f ≡ true → LivesApart tables (whole p) n f →
-      IsAsk this (residual tables (whole p) n f) (ask_of (places_of ends p n) k this.side f)
+      IsAsk this (residual tables (whole p) n f) (ask_of (plain_places ends p n) k this.side f)
   asks Nothing n f has on apart = absurd (true≢false (sym on))
   asks Pause n f has on apart = λ v w. no_waits this.side this.channel v Nothing w
   asks (Emit s) n f has on apart = absurd (true≢false (sym on))
   asks (Seq p q) n f has on apart =
       let m = n + registers p in
-      let second : live tables (whole q) m f ≡ true → LivesApart tables (whole q) m f → IsAsk this (residual tables (whole q) m f) (ask_of (places_of ends q m) k this.side f) = asks q m f has.1 in
-      let quiet_q : live tables (whole q) m f ≡ false → ask_of (places_of ends q m) k this.side f ≡ None = quiet tables ends k q m f in
+      let second : live tables (whole q) m f ≡ true → LivesApart tables (whole q) m f → IsAsk this (residual tables (whole q) m f) (ask_of (plain_places ends q m) k this.side f) = asks q m f has.1 in
+      let quiet_q : live tables (whole q) m f ≡ false → ask_of (plain_places ends q m) k this.side f ≡ None = quiet tables ends k q m f in
       parts (live tables (whole p) n f) refl (asks p n f has.0) (quiet tables ends k p n f)
-      (subst (λ j. live tables (whole q) (n + j) f ≡ true → LivesApart tables (whole q) (n + j) f → IsAsk this (residual tables (whole q) (n + j) f) (ask_of (places_of ends q m) k this.side f)) (sym (registers-whole tables p)) second)
-      (subst (λ j. live tables (whole q) (n + j) f ≡ false → ask_of (places_of ends q m) k this.side f ≡ None) (sym (registers-whole tables p)) quiet_q)
+      (subst (λ j. live tables (whole q) (n + j) f ≡ true → LivesApart tables (whole q) (n + j) f → IsAsk this (residual tables (whole q) (n + j) f) (ask_of (plain_places ends q m) k this.side f)) (sym (registers-whole tables p)) second)
+      (subst (λ j. live tables (whole q) (n + j) f ≡ false → ask_of (plain_places ends q m) k this.side f ≡ None) (sym (registers-whole tables p)) quiet_q)
     where
       parts : (t : Bool) → live tables (whole p) n f ≡ t →
-          (live tables (whole p) n f ≡ true → LivesApart tables (whole p) n f → IsAsk this (residual tables (whole p) n f) (ask_of (places_of ends p n) k this.side f)) →
-          (live tables (whole p) n f ≡ false → ask_of (places_of ends p n) k this.side f ≡ None) →
+          (live tables (whole p) n f ≡ true → LivesApart tables (whole p) n f → IsAsk this (residual tables (whole p) n f) (ask_of (plain_places ends p n) k this.side f)) →
+          (live tables (whole p) n f ≡ false → ask_of (plain_places ends p n) k this.side f ≡ None) →
           (live tables (whole q) (n + all_registers tables (whole p)) f ≡ true → LivesApart tables (whole q) (n + all_registers tables (whole p)) f →
-          IsAsk this (residual tables (whole q) (n + all_registers tables (whole p)) f) (ask_of (places_of ends q (n + registers p)) k this.side f)) →
-          (live tables (whole q) (n + all_registers tables (whole p)) f ≡ false → ask_of (places_of ends q (n + registers p)) k this.side f ≡ None) →
-          IsAsk this (cond t (rules.Seq (residual tables (whole p) n f) (whole q)) (residual tables (whole q) (n + all_registers tables (whole p)) f)) (ask_of (places_of ends p n ++ places_of ends q (n + registers p)) k this.side f)
+          IsAsk this (residual tables (whole q) (n + all_registers tables (whole p)) f) (ask_of (plain_places ends q (n + registers p)) k this.side f)) →
+          (live tables (whole q) (n + all_registers tables (whole p)) f ≡ false → ask_of (plain_places ends q (n + registers p)) k this.side f ≡ None) →
+          IsAsk this (cond t (rules.Seq (residual tables (whole p) n f) (whole q)) (residual tables (whole q) (n + all_registers tables (whole p)) f)) (ask_of (plain_places ends p n ++ plain_places ends q (n + registers p)) k this.side f)
       parts true is first none_p second none_q =
           let off = apart_off (live tables (whole p) n f) (live tables (whole q) (n + all_registers tables (whole p)) f) apart.0 is in
-          subst (IsAsk this (rules.Seq (residual tables (whole p) n f) (whole q))) (sym (ask-first (places_of ends p n) (places_of ends q (n + registers p)) k this.side f (none_q off)))
-          (ask_seq this (residual tables (whole p) n f) q (ask_of (places_of ends p n) k this.side f) (first is apart.1))
+          subst (IsAsk this (rules.Seq (residual tables (whole p) n f) (whole q))) (sym (ask-first (plain_places ends p n) (plain_places ends q (n + registers p)) k this.side f (none_q off)))
+          (ask_seq this (residual tables (whole p) n f) q (ask_of (plain_places ends p n) k this.side f) (first is apart.1))
       parts false is first none_p second none_q =
-          subst (IsAsk this (residual tables (whole q) (n + all_registers tables (whole p)) f)) (sym (ask-second (places_of ends p n) (places_of ends q (n + registers p)) k this.side f (none_p is)))
+          subst (IsAsk this (residual tables (whole q) (n + all_registers tables (whole p)) f)) (sym (ask-second (plain_places ends p n) (plain_places ends q (n + registers p)) k this.side f (none_p is)))
           (second (other_part (live tables (whole p) n f) (live tables (whole q) (n + all_registers tables (whole p)) f) on is) apart.2)
-  asks (Loop p) n f has on apart = ask_seq this (residual tables (whole p) n f) (Loop p) (ask_of (places_of ends p n) k this.side f) (asks p n f has on apart)
-  asks (Send c v0) n f has on apart = subst (λ v. IsAsk this (cond (is_true (f (n + 1))) (rules.Sent c) (rules.SendWaits c (f v))) (ask_of (places_of ends (Send c v0) n) k this.side f)) (omega arith)
+  asks (Loop p) n f has on apart = ask_seq this (residual tables (whole p) n f) (Loop p) (ask_of (plain_places ends p n) k this.side f) (asks p n f has on apart)
+  asks (Send c v0) n f has on apart = subst (λ v. IsAsk this (cond (is_true (f (n + 1))) (rules.Sent c) (rules.SendWaits c (f v))) (ask_of (plain_places ends (Send c v0) n) k this.side f)) (omega arith)
       (send_leaf this.side this.channel c (record { which = end_number ends c; on = n; met = n + 1 }) f (end_number ends c == k) (is_true (f n)) (is_true (f (n + 1))) on (sent_here ends ends_apart k within c has))
   asks (Receive c) n f has on apart = receive_leaf this.side this.channel c (record { which = end_number ends c; on = n; met = n + 1 }) f (end_number ends c == k) (is_true (f n)) (is_true (f (n + 1))) on (got_here ends ends_apart k within c has)
 

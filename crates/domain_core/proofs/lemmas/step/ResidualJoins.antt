@@ -14,7 +14,7 @@ use Rattle.tick_code.specs.declared.end_place.EndPlace.{EndPlace}
 use Rattle.domain_core.specs.declared.step.ends_of.EndOf.{EndOf}
 use Rattle.domain_core.specs.equations.BuiltForms.{Plain, Nothing, Pause, Emit, Seq, Loop, Send, Receive, whole}
 use Rattle.domain_core.specs.equations.BuiltRegisters.{registers, HoldsLiteral}
-use Rattle.domain_core.specs.equations.Places.{places_of}
+use Rattle.domain_core.specs.equations.Places.{plain_places}
 use Rattle.domain_core.specs.definitions.step.EndCalls.{end_at}
 use Rattle.domain_core.specs.definitions.step.EndRegisters.{end_number, end_places, met_at, met}
 use Rattle.domain_core.specs.step.EndPlaces.{HasEnd, HasEnds}
@@ -93,14 +93,14 @@ literals_same (Send c v) n f g same h = λ on. sym (same (n + 2) (omega arith) (
 literals_same (Receive c) n f g same h = h
 
 -- the places of the rules are those of the built statement
-pub places_same : (tables : Tables) (ends : List EndOf) (p : Plain) (n : ℕ) → end_places tables ends (whole p) n ≡ places_of ends p n
+pub places_same : (tables : Tables) (ends : List EndOf) (p : Plain) (n : ℕ) → end_places tables ends (whole p) n ≡ plain_places ends p n
 places_same tables ends Nothing n = refl
 places_same tables ends Pause n = refl
 places_same tables ends (Emit s) n = refl
 places_same tables ends (Seq p q) n =
     ap (λ l. l ++ end_places tables ends (whole q) (n + all_registers tables (whole p))) (places_same tables ends p n)
-    ∙ ap (λ k. places_of ends p n ++ end_places tables ends (whole q) (n + k)) (registers-whole tables p)
-    ∙ ap (λ l. places_of ends p n ++ l) (places_same tables ends q (n + registers p))
+    ∙ ap (λ k. plain_places ends p n ++ end_places tables ends (whole q) (n + k)) (registers-whole tables p)
+    ∙ ap (λ l. plain_places ends p n ++ l) (places_same tables ends q (n + registers p))
 places_same tables ends (Loop p) n = places_same tables ends p n
 places_same tables ends (Send c v) n = refl
 places_same tables ends (Receive c) n = refl
@@ -118,14 +118,14 @@ met_elsewhere e p f k apart = met_cond ((p.which == e) && is_true (f p.on)) f p.
     met_cond true f at k apart = put_apart f at (pos 1) k apart
     met_cond false f at k apart = refl
 
-pub met_outside : (ends : List EndOf) (p : Plain) (n : ℕ) (e : ℕ) (f : ℕ → ℤ) (k : ℕ) → (k < n) ⊎ (n + registers p ≤ k) → met (places_of ends p n) e f k ≡ f k
+pub met_outside : (ends : List EndOf) (p : Plain) (n : ℕ) (e : ℕ) (f : ℕ → ℤ) (k : ℕ) → (k < n) ⊎ (n + registers p ≤ k) → met (plain_places ends p n) e f k ≡ f k
 met_outside ends Nothing n e f k out = refl
 met_outside ends Pause n e f k out = refl
 met_outside ends (Emit s) n e f k out = refl
 met_outside ends (Seq p q) n e f k out =
-    let after : met (places_of ends q (n + registers p)) e (met (places_of ends p n) e f) k ≡ met (places_of ends p n) e f k =
-    met_outside ends q (n + registers p) e (met (places_of ends p n) e f) k (elim out [ inl l ↦ inl (omega (arith, l)) | inr h ↦ inr (omega (arith, h)) ]) in
-    ap (λ g. g k) (met-append (places_of ends p n) (places_of ends q (n + registers p)) e f)
+    let after : met (plain_places ends q (n + registers p)) e (met (plain_places ends p n) e f) k ≡ met (plain_places ends p n) e f k =
+    met_outside ends q (n + registers p) e (met (plain_places ends p n) e f) k (elim out [ inl l ↦ inl (omega (arith, l)) | inr h ↦ inr (omega (arith, h)) ]) in
+    ap (λ g. g k) (met-append (plain_places ends p n) (plain_places ends q (n + registers p)) e f)
     ∙ after
     ∙ met_outside ends p n e f k (elim out [ inl l ↦ inl l | inr h ↦ inr (omega (arith, h)) ])
 met_outside ends (Loop p) n e f k out = met_outside ends p n e f k out
@@ -220,60 +220,60 @@ other_part false b h e = h
 
 module _ (tables : Tables) (ends : List EndOf) (e : ℕ) where
   -- of two parts, the registers of each after the joins in both
-  first_met : (p q : Plain) (n : ℕ) (f : ℕ → ℤ) → SameOn n (registers p) (met (places_of ends (Seq p q) n) e f) (met (places_of ends p n) e f)
+  first_met : (p q : Plain) (n : ℕ) (f : ℕ → ℤ) → SameOn n (registers p) (met (plain_places ends (Seq p q) n) e f) (met (plain_places ends p n) e f)
   first_met p q n f k low high =
-      ap (λ g. g k) (met-append (places_of ends p n) (places_of ends q (n + registers p)) e f) ∙ met_outside ends q (n + registers p) e (met (places_of ends p n) e f) k (inl high)
+      ap (λ g. g k) (met-append (plain_places ends p n) (plain_places ends q (n + registers p)) e f) ∙ met_outside ends q (n + registers p) e (met (plain_places ends p n) e f) k (inl high)
 
-  second_met : (p q : Plain) (n : ℕ) (f : ℕ → ℤ) → SameOn (n + registers p) (registers q) (met (places_of ends p n) e f) f
+  second_met : (p q : Plain) (n : ℕ) (f : ℕ → ℤ) → SameOn (n + registers p) (registers q) (met (plain_places ends p n) e f) f
   second_met p q n f k low high = met_outside ends p n e f k (inr low)
 
-  pub live_met : (p : Plain) (n : ℕ) (f : ℕ → ℤ) → live tables (whole p) n (met (places_of ends p n) e f) ≡ live tables (whole p) n f
+  pub live_met : (p : Plain) (n : ℕ) (f : ℕ → ℤ) → live tables (whole p) n (met (plain_places ends p n) e f) ≡ live tables (whole p) n f
   live_met Nothing n f = refl
   live_met Pause n f = refl
   live_met (Emit s) n f = refl
   live_met (Seq p q) n f =
-      let g = met (places_of ends (Seq p q) n) e f in
+      let g = met (plain_places ends (Seq p q) n) e f in
       let m = n + registers p in
-      let i : live tables (whole p) n g ≡ live tables (whole p) n f = live_same tables p n g (met (places_of ends p n) e f) (first_met p q n f) ∙ live_met p n f in
+      let i : live tables (whole p) n g ≡ live tables (whole p) n f = live_same tables p n g (met (plain_places ends p n) e f) (first_met p q n f) ∙ live_met p n f in
       let j : live tables (whole q) m g ≡ live tables (whole q) m f =
-      ap (live tables (whole q) m) (met-append (places_of ends p n) (places_of ends q m) e f) ∙ live_met q m (met (places_of ends p n) e f) ∙ live_same tables q m (met (places_of ends p n) e f) f (second_met p q n f) in
+      ap (live tables (whole q) m) (met-append (plain_places ends p n) (plain_places ends q m) e f) ∙ live_met q m (met (plain_places ends p n) e f) ∙ live_same tables q m (met (plain_places ends p n) e f) f (second_met p q n f) in
       ap (λ x. x || live tables (whole q) (n + all_registers tables (whole p)) g) i
       ∙ ap (λ x. live tables (whole p) n f || x) (at_second tables (λ k. live tables (whole q) k g ≡ live tables (whole q) k f) p n j)
   live_met (Loop p) n f = live_met p n f
   live_met (Send c v) n f = ap is_true (met_elsewhere e (record { which = end_number ends c; on = n; met = n + 1 }) f n (omega arith))
   live_met (Receive c) n f = ap is_true (met_elsewhere e (record { which = end_number ends c; on = n; met = n + 1 }) f n (omega arith))
 
-  pub apart_met : (p : Plain) (n : ℕ) (f : ℕ → ℤ) → LivesApart tables (whole p) n f → LivesApart tables (whole p) n (met (places_of ends p n) e f)
+  pub apart_met : (p : Plain) (n : ℕ) (f : ℕ → ℤ) → LivesApart tables (whole p) n f → LivesApart tables (whole p) n (met (plain_places ends p n) e f)
   apart_met Nothing n f h = h
   apart_met Pause n f h = h
   apart_met (Emit s) n f h = h
   apart_met (Seq p q) n f h =
-      let g = met (places_of ends (Seq p q) n) e f in
+      let g = met (plain_places ends (Seq p q) n) e f in
       let m = n + registers p in
-      let i : live tables (whole p) n f ≡ live tables (whole p) n g = sym (live_same tables p n g (met (places_of ends p n) e f) (first_met p q n f) ∙ live_met p n f) in
+      let i : live tables (whole p) n f ≡ live tables (whole p) n g = sym (live_same tables p n g (met (plain_places ends p n) e f) (first_met p q n f) ∙ live_met p n f) in
       let j : live tables (whole q) m f ≡ live tables (whole q) m g =
-      sym (ap (live tables (whole q) m) (met-append (places_of ends p n) (places_of ends q m) e f) ∙ live_met q m (met (places_of ends p n) e f) ∙ live_same tables q m (met (places_of ends p n) e f) f (second_met p q n f)) in
+      sym (ap (live tables (whole q) m) (met-append (plain_places ends p n) (plain_places ends q m) e f) ∙ live_met q m (met (plain_places ends p n) e f) ∙ live_same tables q m (met (plain_places ends p n) e f) f (second_met p q n f)) in
       let back : LivesApart tables (whole q) m f → LivesApart tables (whole q) m g =
-      λ a. subst (LivesApart tables (whole q) m) (sym (met-append (places_of ends p n) (places_of ends q m) e f))
-      (apart_met q m (met (places_of ends p n) e f) (apart_same tables q m f (met (places_of ends p n) e f) (λ k low high. sym (second_met p q n f k low high)) a)) in (
+      λ a. subst (LivesApart tables (whole q) m) (sym (met-append (plain_places ends p n) (plain_places ends q m) e f))
+      (apart_met q m (met (plain_places ends p n) e f) (apart_same tables q m f (met (plain_places ends p n) e f) (λ k low high. sym (second_met p q n f k low high)) a)) in (
         subst (λ x. AtMostOne (live tables (whole p) n g) x) (at_second tables (λ k. live tables (whole q) k f ≡ live tables (whole q) k g) p n j)
             (subst (λ x. AtMostOne x (live tables (whole q) (n + all_registers tables (whole p)) f)) i h.0),
-        apart_same tables p n (met (places_of ends p n) e f) g (λ k low high. sym (first_met p q n f k low high)) (apart_met p n f h.1),
+        apart_same tables p n (met (plain_places ends p n) e f) g (λ k low high. sym (first_met p q n f k low high)) (apart_met p n f h.1),
         at_second tables (λ k. LivesApart tables (whole q) k f → LivesApart tables (whole q) k g) p n back h.2,
       )
   apart_met (Loop p) n f h = apart_met p n f h
   apart_met (Send c v) n f h = h
   apart_met (Receive c) n f h = h
 
-  pub literals_met : (p : Plain) (n : ℕ) (f : ℕ → ℤ) → HoldsLiteral p n f → HoldsLiteral p n (met (places_of ends p n) e f)
+  pub literals_met : (p : Plain) (n : ℕ) (f : ℕ → ℤ) → HoldsLiteral p n f → HoldsLiteral p n (met (plain_places ends p n) e f)
   literals_met Nothing n f h = h
   literals_met Pause n f h = h
   literals_met (Emit s) n f h = h
   literals_met (Seq p q) n f h =
       let m = n + registers p in (
-        literals_same p n (met (places_of ends p n) e f) (met (places_of ends (Seq p q) n) e f) (λ k low high. sym (first_met p q n f k low high)) (literals_met p n f h.0),
-        subst (HoldsLiteral q m) (sym (met-append (places_of ends p n) (places_of ends q m) e f))
-            (literals_met q m (met (places_of ends p n) e f) (literals_same q m f (met (places_of ends p n) e f) (λ k low high. sym (second_met p q n f k low high)) h.1)),
+        literals_same p n (met (plain_places ends p n) e f) (met (plain_places ends (Seq p q) n) e f) (λ k low high. sym (first_met p q n f k low high)) (literals_met p n f h.0),
+        subst (HoldsLiteral q m) (sym (met-append (plain_places ends p n) (plain_places ends q m) e f))
+            (literals_met q m (met (plain_places ends p n) e f) (literals_same q m f (met (plain_places ends p n) e f) (λ k low high. sym (second_met p q n f k low high)) h.1)),
       )
   literals_met (Loop p) n f h = literals_met p n f h
   literals_met (Send c v) n f h =
@@ -284,28 +284,28 @@ module _ (tables : Tables) (ends : List EndOf) (e : ℕ) where
 module _ (tables : Tables) (ends : List EndOf) (apart : AreApart ends) (e : ℕ) (within : e < length ends) where
   -- the registers of a live statement stand for what the join leaves of it
   pub residual_met : (p : Plain) (n : ℕ) (f : ℕ → ℤ) → HasEnds ends p → live tables (whole p) n f ≡ true →
-      residual tables (whole p) n (met (places_of ends p n) e f) ≡ rewritten (sent_by (end_at ends e)) (got_by (end_at ends e)) (residual tables (whole p) n f)
+      residual tables (whole p) n (met (plain_places ends p n) e f) ≡ rewritten (sent_by (end_at ends e)) (got_by (end_at ends e)) (residual tables (whole p) n f)
   residual_met Nothing n f has on = refl
   residual_met Pause n f has on = refl
   residual_met (Emit s) n f has on = refl
   residual_met (Seq p q) n f has on =
-      let g = met (places_of ends (Seq p q) n) e f in
+      let g = met (plain_places ends (Seq p q) n) e f in
       let m = n + registers p in
-      let l : live tables (whole p) n g ≡ live tables (whole p) n f = live_same tables p n g (met (places_of ends p n) e f) (first_met tables ends e p q n f) ∙ live_met tables ends e p n f in
+      let l : live tables (whole p) n g ≡ live tables (whole p) n f = live_same tables p n g (met (plain_places ends p n) e f) (first_met tables ends e p q n f) ∙ live_met tables ends e p n f in
       let second : live tables (whole q) m f ≡ true → residual tables (whole q) m g ≡ rewritten (sent_by (end_at ends e)) (got_by (end_at ends e)) (residual tables (whole q) m f) =
-      λ h. ap (residual tables (whole q) m) (met-append (places_of ends p n) (places_of ends q m) e f)
-      ∙ residual_met q m (met (places_of ends p n) e f) has.1 (live_same tables q m (met (places_of ends p n) e f) f (second_met tables ends e p q n f) ∙ h)
-      ∙ ap (rewritten (sent_by (end_at ends e)) (got_by (end_at ends e))) (residual_same tables q m (met (places_of ends p n) e f) f (second_met tables ends e p q n f)) in
+      λ h. ap (residual tables (whole q) m) (met-append (plain_places ends p n) (plain_places ends q m) e f)
+      ∙ residual_met q m (met (plain_places ends p n) e f) has.1 (live_same tables q m (met (plain_places ends p n) e f) f (second_met tables ends e p q n f) ∙ h)
+      ∙ ap (rewritten (sent_by (end_at ends e)) (got_by (end_at ends e))) (residual_same tables q m (met (plain_places ends p n) e f) f (second_met tables ends e p q n f)) in
       parts (live tables (whole p) n f) (live tables (whole p) n g) l refl
-      (λ h. residual_same tables p n g (met (places_of ends p n) e f) (first_met tables ends e p q n f) ∙ residual_met p n f has.0 h)
+      (λ h. residual_same tables p n g (met (plain_places ends p n) e f) (first_met tables ends e p q n f) ∙ residual_met p n f has.0 h)
       (at_second tables (λ k. live tables (whole q) k f ≡ true → residual tables (whole q) k g ≡ rewritten (sent_by (end_at ends e)) (got_by (end_at ends e)) (residual tables (whole q) k f)) p n second)
     where
       parts : (t u : Bool) → u ≡ t → live tables (whole p) n f ≡ t →
-          (t ≡ true → residual tables (whole p) n (met (places_of ends (Seq p q) n) e f) ≡ rewritten (sent_by (end_at ends e)) (got_by (end_at ends e)) (residual tables (whole p) n f)) →
+          (t ≡ true → residual tables (whole p) n (met (plain_places ends (Seq p q) n) e f) ≡ rewritten (sent_by (end_at ends e)) (got_by (end_at ends e)) (residual tables (whole p) n f)) →
           (live tables (whole q) (n + all_registers tables (whole p)) f ≡ true →
-          residual tables (whole q) (n + all_registers tables (whole p)) (met (places_of ends (Seq p q) n) e f)
+          residual tables (whole q) (n + all_registers tables (whole p)) (met (plain_places ends (Seq p q) n) e f)
           ≡ rewritten (sent_by (end_at ends e)) (got_by (end_at ends e)) (residual tables (whole q) (n + all_registers tables (whole p)) f)) →
-          cond u (rules.Seq (residual tables (whole p) n (met (places_of ends (Seq p q) n) e f)) (whole q)) (residual tables (whole q) (n + all_registers tables (whole p)) (met (places_of ends (Seq p q) n) e f))
+          cond u (rules.Seq (residual tables (whole p) n (met (plain_places ends (Seq p q) n) e f)) (whole q)) (residual tables (whole q) (n + all_registers tables (whole p)) (met (plain_places ends (Seq p q) n) e f))
           ≡ rewritten (sent_by (end_at ends e)) (got_by (end_at ends e)) (cond t (rules.Seq (residual tables (whole p) n f) (whole q)) (residual tables (whole q) (n + all_registers tables (whole p)) f))
       parts true true same is first second = let i = first refl in let j = rewritten_whole (sent_by (end_at ends e)) (got_by (end_at ends e)) q in cc
       parts false false same is first second = second (other_part (live tables (whole p) n f) (live tables (whole q) (n + all_registers tables (whole p)) f) on is)

@@ -15,7 +15,7 @@ use Rattle.domain_core.specs.definitions.runs.Systems.{Setup, IsSystem, setup_of
 use Rattle.domain_core.specs.definitions.runs.Stamps.{IsTickStamp, last_stamp}
 use Rattle.domain_core.specs.definitions.step.EndCalls.{end_at}
 use Rattle.domain_core.specs.definitions.step.Domains.{DomainView, ends_in, tables_in, tick_count_of, state_of, joins_at}
-use Rattle.domain_core.specs.definitions.step.Steps.{at_channel, answered, count_in, add_joins, IsStampSince, IsStep, MakesTick, Stops}
+use Rattle.domain_core.specs.definitions.step.Steps.{at_channel, answered, count_in, add_joins, IsStampSince, IsStep, TicksOnce, Stops}
 use Rattle.domain_core.specs.definitions.rounds.Rounds.{Offer, Rounds, found_at_offer, found_at_recall, value_found, offered, recalled, join_found, IsFoundStamp, entry_stamps, RecallsStanding, Found, found_from, found_entry, IsRounds, IsOpenRounds, MakesRound, with_round, with_recalls}
 use Rattle.domain_core.specs.definitions.step.RoundsOf.{recalls_made, offer_made, offers_made, stands_from, found_in, AreRoundsOf, MadeRound, MadeCut}
 use Rattle.domain_core.proofs.lemmas.runs.Places.{put_here}
@@ -145,7 +145,7 @@ module _ (inputs : Inputs) (old : DomainView) (x : Rounds) (answers : List (Opti
       }
 
   module _ (new : DomainView) (replies : List (Option Joined)) (asks : List (Option ℤ)) (result : Stepped) (of_system : new.system ≡ old.system) (of_domain : new.domain ≡ old.domain)
-      (k : MakesTick inputs old new answers replies asks stamp result) where
+      (k : TicksOnce inputs old new answers replies asks stamp result) where
     abbrev O : ℕ → Option Offer
     O = offers_made ends asks stamp replies
 
@@ -231,7 +231,7 @@ pub at_own : (v : DomainView) (system : System) (d : ℕ) → v.system ≡ syste
 at_own v system d qs qd P h = subst (λ z. P system z) qd (subst (λ z. P z v.domain) qs h)
 
 module _ {S : Type 0} (moved : S → ℕ → CellMove → Option Joined → S → Type 0) (system : System) (inputs : Inputs) (d : ℕ) (before after : S) (old new : DomainView) (result : Stepped) (x : Rounds) (h : AreRoundsOf system inputs d old x) (i : IsStep moved inputs before after old new result) where
-  pub step_is_round : MakesTick inputs old new i.answers i.replies i.asks i.stamp result → MadeRound system inputs d old new x i.answers i.replies i.asks i.stamp
+  pub step_is_round : TicksOnce inputs old new i.answers i.replies i.asks i.stamp result → MadeRound system inputs d old new x i.answers i.replies i.asks i.stamp
   step_is_round k =
       at_own old system d h.of_system h.of_domain (λ y z. AreRoundsOf y inputs z old x → MadeRound y inputs z old new x i.answers i.replies i.asks i.stamp)
       (λ o. round_made inputs old x i.answers i.stamp o i.alone i.next new i.replies i.asks result i.system i.domain k) h

@@ -17,7 +17,7 @@ use Rattle.domain_core.specs.declared.step.ends_of.EndOf.{EndOf}
 use Rattle.domain_core.specs.declared.step.ends_of.EndJoin.{EndJoin}
 use Rattle.domain_core.specs.equations.BuiltForms.{Plain, whole}
 use Rattle.domain_core.specs.equations.BuiltRegisters.{registers, HoldsLiteral}
-use Rattle.domain_core.specs.equations.Places.{places_of}
+use Rattle.domain_core.specs.equations.Places.{plain_places}
 use Rattle.domain_core.specs.definitions.step.EndCalls.{end_at}
 use Rattle.domain_core.specs.definitions.step.EndRegisters.{last_places, receivers_before, met, with_last, joined_at, registers_joined}
 use Rattle.domain_core.specs.definitions.runs.Systems.{rewritten}
@@ -62,7 +62,7 @@ module _ (tables : Tables) (d : ℕ) (p : Plain) (channels : (c : ℕ) → c < l
   ends = ends_of tables d
 
   abbrev places : List EndPlace
-  places = places_of (ends_of tables d) p 0
+  places = plain_places (ends_of tables d) p 0
 
   abbrev last : List ℕ
   last = last_places tables d (whole p)

@@ -1,6 +1,6 @@
 -- What one tick makes of the state of a domain over pure signals.
 use Rattle.std.proofs.Common.{◌≡◌, ℕ, zero, suc, ◌<◌, ◌≤◌, ℤ, pos, Bool, true, false, cond, List, [], ◌∷◌, length, get_or, map, Option, Some, None, refl, sym, ap, ◌∙◌, subst, inl, inr, arith}
-use Rattle.std.specs.Prelude.{◌==◌, ◌&&◌, replicate, slice_index_or, unwrap_or, is_some}
+use Rattle.std.specs.Prelude.{◌==◌, ◌&&◌, replicate, unwrap_or, is_some}
 use Rattle.std.specs.Int.{int_wrap}
 use Rattle.std.specs.List.{All, filter}
 use Rattle.std.proofs.lemmas.List.{get_or_default}
@@ -103,7 +103,7 @@ statuses_fit tables d shows pure len =
     (subst (λ n. AreStatuses found (statuses_of shows (replicate n (pos 0)))) (sym count) (pure_statuses found shows (len ∙ count) all_pure))
 
 module _ (tables : Tables) (d : ℕ) (p : Plain) (from : Stmt) (present : List Bool) (new : ℕ → ℤ) (ended : Bool)
-    (pure : HasPureOutputs tables d) (tells : TellsTick tables (whole p) (length tables.signals) from present new ended) where
+    (pure : HasPureOutputs tables d) (tells : TellsTick tables (whole p) (length tables.signals) (interface_of tables d) from present new ended) where
   coherent : (last x : ℕ → ℤ) → IsCoherent tables d (λ s. None) (λ s. pos 0) tells.env (tells.tick last x).emits
   coherent last x s is =
       let less = interface_below tables d s is in
@@ -122,13 +122,12 @@ module _ (tables : Tables) (d : ℕ) (p : Plain) (from : Stmt) (present : List B
 
   -- the entry of a log shows the signals that are present
   shown_all : (ss : List ℕ) → ((k : ℕ) (e : ℕ) → k < length ss → get_or ss k e < length tables.signals) →
-      statuses_of (map (λ s. slice_index_or present s false) ss) (replicate (length ss) (pos 0)) ≡ map (λ s. shown (tells.env s)) ss
+      statuses_of (map (λ s. (tells.env s).present) ss) (replicate (length ss) (pos 0)) ≡ map (λ s. shown (tells.env s)) ss
   shown_all [] below = refl
   shown_all (s ∷ ss) below =
       let less = below 0 s (omega arith) in
       let rest = shown_all ss (λ k e within. below (suc k) e (omega (arith, within))) in
-      ap (λ b. cond b (Some (pos 0)) None ∷ statuses_of (map (λ s. slice_index_or present s false) ss) (replicate (length ss) (pos 0))) (sym (tells.shows s less))
-      ∙ ap (λ v. cond (tells.env s).present (Some v) None ∷ statuses_of (map (λ s. slice_index_or present s false) ss) (replicate (length ss) (pos 0))) (sym (tells.pure s less))
+      ap (λ v. cond (tells.env s).present (Some v) None ∷ statuses_of (map (λ s. (tells.env s).present) ss) (replicate (length ss) (pos 0))) (sym (tells.pure s less))
       ∙ ap (λ l. shown (tells.env s) ∷ l) rest
 
   -- the code, and what is left
@@ -157,11 +156,11 @@ module _ (tables : Tables) (d : ℕ) (p : Plain) (from : Stmt) (present : List B
     mark = cond ended Ended Going;
   }
 
-  pub tick_is_legal : (last x : ℕ → ℤ) (n : ℕ) (shows : List Bool) → shows ≡ map (λ s. slice_index_or present s false) (interface_of tables d) →
+  pub tick_is_legal : (last x : ℕ → ℤ) (n : ℕ) →
       ((k : ℕ) (e : ℕ) → k < length (interface_of tables d) → get_or (interface_of tables d) k e < length tables.signals) →
       IsLegalTick tables no_inputs d (record { statement = from; variables = x; values = λ s. pos 0; last = last; ticks = n; mark = Going })
-      (statuses_of shows (replicate (length (interface_of tables d)) (pos 0))) (after_tick last x n)
-  tick_is_legal last x n shows picked below =
+      (statuses_of present (replicate (length (interface_of tables d)) (pos 0))) (after_tick last x n)
+  tick_is_legal last x n below =
       let o = tells.tick last x in
       let code = code_is last x in
       record {
@@ -171,7 +170,7 @@ module _ (tables : Tables) (d : ℕ) (p : Plain) (from : Stmt) (present : List B
         ticks = tells.ticks last x;
         coherent = coherent last x;
         code = subst (λ k. is_tick_code k ≡ true) (sym code) (low ended);
-        shows = ap (λ l. statuses_of l (replicate (length (interface_of tables d)) (pos 0))) picked ∙ shown_all (interface_of tables d) below;
+        shows = ap (λ l. statuses_of l (replicate (length (interface_of tables d)) (pos 0))) tells.shows ∙ shown_all (interface_of tables d) below;
         next =
             ap (λ t. record { statement = t; variables = x; values = λ s. pos 0; last = last; ticks = suc n; mark = cond ended Ended Going }) (sym (left_is last x))
             ∙ ap (λ v. record { statement = o.rest; variables = v; values = λ s. pos 0; last = last; ticks = suc n; mark = cond ended Ended Going }) (sym (tells.variables last x))

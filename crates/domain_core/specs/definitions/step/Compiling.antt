@@ -9,7 +9,7 @@ use Rattle.kernel_rules.specs.definitions.LegalTick.{Inputs}
 use Rattle.kernel_rules.specs.definitions.Registers.{domain_registers}
 use Rattle.kernel_terms.specs.MayEnd.{LoopsWait}
 use Rattle.tick_tree.specs.definitions.Weight.{weight_of, most_weight}
-use Rattle.domain_core.specs.definitions.step.Built.{is_built, size_of, most_size}
+use Rattle.domain_core.specs.definitions.step.Built.{is_built}
 use Rattle.domain_core.specs.definitions.step.PureSignals.{HasPureOutputs}
 use Rattle.domain_core.specs.definitions.runs.Systems.{setup_of, start_of}
 use Rattle.domain_core.specs.definitions.step.Domains.{DomainView, ends_in, joins_at, state_of}
@@ -21,7 +21,6 @@ pub record CanCompile (system : System) (d : ℕ) : Type 0 where
   pub built : (t : Term) → is_built (get_or (domains_of system) d t) ≡ true
   pub loops : LoopsWait (source_of system d)
   pub weight : weight_of (source_of system d) ≤ most_weight
-  pub size : size_of (source_of system d) ≤ most_size
   pub pure : HasPureOutputs (tables_of system) d
 
 -- the domain before its first tick

@@ -140,7 +140,7 @@ pub record StandFor (v : DomainView) (registers : List ℤ) (s : DomainState) : 
 -- A legal tick is made from the domain's state with the joins that the recalls answered, and then each end
 -- that waits makes its offer. The new state is the tick's with the joins that the offers answered, and exactly
 -- the ends stand whose offers weren't answered.
-pub record MakesTick (inputs : Inputs) (old new : DomainView) (answers replies : List (Option Joined)) (asks : List (Option ℤ)) (stamp : ℕ) (result : Stepped) : Type 0 where
+pub record TicksOnce (inputs : Inputs) (old new : DomainView) (answers replies : List (Option Joined)) (asks : List (Option ℤ)) (stamp : ℕ) (result : Stepped) : Type 0 where
   pub limit : stamp < 2 ^ 62
   pub statuses : List (Option ℤ)
   pub after : DomainState
@@ -168,7 +168,7 @@ pub record MakesTick (inputs : Inputs) (old new : DomainView) (answers replies :
 
 -- the offers of a step, where it makes a tick
 abbrev pub Goes : Inputs → DomainView → DomainView → List (Option Joined) → ℕ → Stepped → List (Option ℤ) → List (Option Joined) → Type 0
-Goes inputs old new answers stamp result asks replies = MakesTick inputs old new answers replies asks stamp result ⊎ (Stops old new answers stamp result × (asks ≡ []))
+Goes inputs old new answers stamp result asks replies = TicksOnce inputs old new answers replies asks stamp result ⊎ (Stops old new answers stamp result × (asks ≡ []))
 
 -- A step recalls each end that stands, by rising number. With the joins so found it makes a tick and offers
 -- each end that waits, by rising number, or stops.

@@ -1,6 +1,6 @@
 use Rattle.std.proofs.Common.{◌≡◌, subst, sym, true, ◌∙◌}
 use Rattle.kernel_terms.specs.WellFormed.{is_well_formed}
-use Rattle.domain_core.specs.definitions.Rows.{pure_domains}
+use Rattle.domain_core.specs.step.SmallDomains.{pure_domains}
 use Rattle.domain_core.proofs.lemmas.equations.PairTerms.{pair_fits}
 use Rattle.gals_core.proofs.tests.two_domains.Goals as goal
 

@@ -8,4 +8,3 @@ abbrev pub invariant-start_all-loop-at : goal.invariant-start_all-loop-at
 invariant-start_all-loop-at l =
     ComesTo l.initial.parts l.parts (start_list (map plain l.list) (length l.initial.parts.equations.items) l.initial.done l.initial.next) (start_list (map plain (drop l.at l.list)) (length l.parts.equations.items) l.done l.next)
     × (l.next + registers_of (map plain (drop l.at l.list)) ≡ l.initial.next + registers_of (map plain l.list))
-    × (length l.parts.equations.items ≡ length l.initial.parts.equations.items)

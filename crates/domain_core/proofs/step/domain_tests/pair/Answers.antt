@@ -3,7 +3,7 @@ use Rattle.java_values.specs.declared.kind.Kind.TheVariants as kind
 use Rattle.kernel_terms.specs.Expressions.{Literal}
 use Rattle.kernel_terms.specs.Statements.{Emit, Send, Receive}
 use Rattle.kernel_terms.specs.WellFormed.{is_well_formed}
-use Rattle.domain_core.specs.definitions.Rows.{IsTermOf, pure_domains}
+use Rattle.domain_core.specs.step.SmallDomains.{IsTermOf, pure_domains}
 use Rattle.domain_core.proofs.lemmas.equations.PairTerms.{sending, receiving, pair_fits}
 use Rattle.domain_core.proofs.step.domain_tests.pair.Goals as goal
 

@@ -1,6 +1,4 @@
-use Rattle.std.proofs.Common.{◌≡◌, ◌<◌, ◌≤◌, ◌+◌, ℕ, length, get_or, subst, sym, ap, ◌∙◌, refl, arith, true, false, map, None, cond, []}
-use Rattle.std.specs.Prelude.{slice_index_or}
-use Rattle.std.proofs.lemmas.List.{length-map}
+use Rattle.std.proofs.Common.{◌≡◌, ◌<◌, ◌≤◌, ◌+◌, ℕ, length, get_or, subst, sym, ap, ◌∙◌, refl, arith, true, false, None, cond, []}
 use Rattle.domain_core.specs.definitions.step.EndCalls.{end_at}
 use Rattle.domain_core.specs.step.EndPlaces.{ask_of}
 use Rattle.kernel_terms.specs.Marks.{Going, Ended}
@@ -16,7 +14,7 @@ use Rattle.domain_core.specs.step.DomainKeeps.{HasScratch}
 use Rattle.domain_core.specs.equations.BuiltForms.{whole}
 use Rattle.domain_core.proofs.lemmas.step.LastValues.{count_registers}
 use Rattle.domain_core.proofs.lemmas.equations.BuiltRules.{registers-whole}
-use Rattle.domain_core.proofs.lemmas.step.DomainSteps.{view_of, interface_within, stop_keeps, stop_steps, room_here, can_offer, tick_keeps, tick_steps, tick_leaves}
+use Rattle.domain_core.proofs.lemmas.step.DomainSteps.{view_of, stop_keeps, stop_steps, room_here, can_offer, tick_keeps, tick_steps, tick_leaves}
 use Rattle.domain_core.proofs.step.domain.Domain.step.Goals as goal
 
 pub invariant_of-self : goal.invariant_of-self
@@ -32,8 +30,8 @@ invariant_of-self g c =
     let stopped : State = record { registers = p.new.state.registers; standing = c.stand_none.new.standing; joins = p.new.state.joins; stamp = p.new.state.stamp; cause = p.new.state.cause; stopped = true } in
     let m = c.self.invariant.memory in
     let s = x.scratch in
-    let scratch : Scratch = record { answers = p.new.answers; replies = s.replies; asks = s.asks; wires = s.wires; present = s.present; shown = s.shown; zeros = s.zeros } in
-    let memory : HasScratch x.program scratch (length (tables_of x.system.value).signals) = record { answers = p.ensures.answers; replies = m.replies; asks = m.asks; wires = m.wires; present = m.present; shown = m.shown; zeros = m.zeros } in
+    let scratch : Scratch = record { answers = p.new.answers; replies = s.replies; asks = s.asks; wires = s.wires; present = s.present; zeros = s.zeros } in
+    let memory : HasScratch x.program scratch = record { answers = p.ensures.answers; replies = m.replies; asks = m.asks; wires = m.wires; present = m.present; zeros = m.zeros } in
     stop_keeps E.moved E.count E.end_at x.system.value x.domain x.program x.state p.new.state x.scratch x.log p.new.answers.items c.args.ends.now p.new.ends c.self.invariant going running fits p.ensures.recalls applies
     stopped refl refl refl refl refl c.stand_none.ensures.standing (c.stand_none.ensures.len ∙ ap length p.ensures.standing) scratch memory
 
@@ -51,15 +49,6 @@ returns-then-stamp-clause-step g c =
     subst (λ v. IsStep E.moved no_inputs c.args.ends.now p.new.ends v (view_of x.system.value x.domain stopped x.log) (stepped.StampLimit (p.new.state.cause + 1))) c.self.view_is
     (stop_steps E.moved E.count E.end_at x.system.value x.domain x.program x.state p.new.state x.scratch x.log p.new.answers.items c.args.ends.now p.new.ends c.self.invariant going running fits p.ensures.recalls applies
     stopped refl refl refl refl refl c.stand_none.ensures.standing (c.stand_none.ensures.len ∙ ap length p.ensures.standing) (p.new.state.cause + 1) refl c.if-stamp.true)
-
-pub pick-requires-clause-within : goal.pick-requires-clause-within
-pick-requires-clause-within g c = λ k e less.
-    let x = c.self.inside in
-    let m = c.self.invariant.memory in
-    let signals = c.deref-2.ensures.value ∙ c.self.invariant.is_program.signals in
-    let present = ap length c.deref.ensures.value ∙ c.tick-ended.ensures.present ∙ m.present in
-    let within = subst (λ l. k < length l → get_or l k e < length (tables_of x.system.value).signals) (sym signals) (interface_within (tables_of x.system.value) x.domain k e) less in
-    omega (arith, within, present)
 
 pub offer_phase-requires-clause-room : goal.offer_phase-requires-clause-room
 offer_phase-requires-clause-room g c =
@@ -88,17 +77,16 @@ offer_phase-requires-clause-can g c =
     let m = c.self.invariant.memory in
     let k = c.tick-ended in
     let two : State = record { registers = k.new.registers; standing = p.new.state.standing; joins = p.new.state.joins; stamp = p.new.state.cause + 1; cause = p.new.state.cause + 1; stopped = p.new.state.stopped } in
-    let made : MakesCodeTick x.program.codes (length x.log.entries) (register_at p.new.state.registers.items) (register_at k.new.registers.items) k.new.present.items k.result =
-    subst (λ n. MakesCodeTick x.program.codes n (register_at p.new.state.registers.items) (register_at k.new.registers.items) k.new.present.items k.result) c.len-ticks.ensures k.ensures.tick in
-    let picks : c.deref-3.result.now ≡ map (λ s. slice_index_or k.new.present.items s false) x.program.signals.items =
-    c.deref-3.ensures.value ∙ c.pick.ensures.shown ∙ ap (λ l. map (λ s. slice_index_or l s false) c.deref-2.result.now) c.deref.ensures.value ∙ ap (map (λ s. slice_index_or k.new.present.items s false)) c.deref-2.ensures.value in
-    let asked : (i : ℕ) → i < length x.program.ends.items → get_or c.deref-6.result.now i None ≡ cond k.result None (ask_of x.program.codes.places.items i (end_at x.program.ends.items i).side (register_at k.new.registers.items)) =
-    λ i less. ap (λ l. get_or l i None) c.deref-6.ensures.value ∙ c.ask.ensures.asks i less
-    ∙ ap (λ l. cond k.result None (ask_of x.program.codes.places.items i (end_at x.program.ends.items i).side (register_at l))) c.deref-5.ensures.value in
+    let made : MakesCodeTick x.program.codes (length x.log.entries) (register_at p.new.state.registers.items) (register_at k.new.registers.items) c.deref.result.now k.result =
+    subst (λ l. MakesCodeTick x.program.codes (length x.log.entries) (register_at p.new.state.registers.items) (register_at k.new.registers.items) l k.result) (sym c.deref.ensures.value)
+    (subst (λ n. MakesCodeTick x.program.codes n (register_at p.new.state.registers.items) (register_at k.new.registers.items) k.new.present.items k.result) c.len-ticks.ensures k.ensures.tick) in
+    let asked : (i : ℕ) → i < length x.program.ends.items → get_or c.deref-4.result.now i None ≡ cond k.result None (ask_of x.program.codes.places.items i (end_at x.program.ends.items i).side (register_at k.new.registers.items)) =
+    λ i less. ap (λ l. get_or l i None) c.deref-4.ensures.value ∙ c.ask.ensures.asks i less
+    ∙ ap (λ l. cond k.result None (ask_of x.program.codes.places.items i (end_at x.program.ends.items i).side (register_at l))) c.deref-3.ensures.value in
     can_offer E.moved E.count E.end_at x.system.value x.domain x.program x.state p.new.state x.scratch x.log p.new.answers.items c.args.ends.now p.new.ends c.self.invariant going running fits p.ensures.recalls applies
-    two two c.push.new.self k.new.present.items c.deref-3.result.now c.deref-4.result.now c.deref-6.result.now [] p.new.ends k.result (p.new.state.cause + 1)
-    room (k.ensures.present ∙ m.present) made k.ensures.registers refl refl refl refl (ap length p.ensures.standing ∙ c.self.invariant.parts.standing) refl c.if-stamp.false
-    picks (c.deref-4.ensures.value ∙ m.zeros) c.push.ensures asked
+    two two c.push.new.self c.deref.result.now c.deref-2.result.now c.deref-4.result.now [] p.new.ends k.result (p.new.state.cause + 1)
+    room made k.ensures.registers refl refl refl refl (ap length p.ensures.standing ∙ c.self.invariant.parts.standing) refl c.if-stamp.false
+    (c.deref-2.ensures.value ∙ m.zeros) c.push.ensures asked
 
 pub invariant_of-self-2 : goal.invariant_of-self-2
 invariant_of-self-2 g c =
@@ -114,29 +102,27 @@ invariant_of-self-2 g c =
     let m = c.self.invariant.memory in
     let k = c.tick-ended in
     let two : State = record { registers = k.new.registers; standing = p.new.state.standing; joins = p.new.state.joins; stamp = p.new.state.cause + 1; cause = p.new.state.cause + 1; stopped = p.new.state.stopped } in
-    let made : MakesCodeTick x.program.codes (length x.log.entries) (register_at p.new.state.registers.items) (register_at k.new.registers.items) k.new.present.items k.result =
-    subst (λ n. MakesCodeTick x.program.codes n (register_at p.new.state.registers.items) (register_at k.new.registers.items) k.new.present.items k.result) c.len-ticks.ensures k.ensures.tick in
-    let picks : c.deref-3.result.now ≡ map (λ s. slice_index_or k.new.present.items s false) x.program.signals.items =
-    c.deref-3.ensures.value ∙ c.pick.ensures.shown ∙ ap (λ l. map (λ s. slice_index_or l s false) c.deref-2.result.now) c.deref.ensures.value ∙ ap (map (λ s. slice_index_or k.new.present.items s false)) c.deref-2.ensures.value in
-    let asked : (i : ℕ) → i < length x.program.ends.items → get_or c.deref-6.result.now i None ≡ cond k.result None (ask_of x.program.codes.places.items i (end_at x.program.ends.items i).side (register_at k.new.registers.items)) =
-    λ i less. ap (λ l. get_or l i None) c.deref-6.ensures.value ∙ c.ask.ensures.asks i less
-    ∙ ap (λ l. cond k.result None (ask_of x.program.codes.places.items i (end_at x.program.ends.items i).side (register_at l))) c.deref-5.ensures.value in
+    let made : MakesCodeTick x.program.codes (length x.log.entries) (register_at p.new.state.registers.items) (register_at k.new.registers.items) c.deref.result.now k.result =
+    subst (λ l. MakesCodeTick x.program.codes (length x.log.entries) (register_at p.new.state.registers.items) (register_at k.new.registers.items) l k.result) (sym c.deref.ensures.value)
+    (subst (λ n. MakesCodeTick x.program.codes n (register_at p.new.state.registers.items) (register_at k.new.registers.items) k.new.present.items k.result) c.len-ticks.ensures k.ensures.tick) in
+    let asked : (i : ℕ) → i < length x.program.ends.items → get_or c.deref-4.result.now i None ≡ cond k.result None (ask_of x.program.codes.places.items i (end_at x.program.ends.items i).side (register_at k.new.registers.items)) =
+    λ i less. ap (λ l. get_or l i None) c.deref-4.ensures.value ∙ c.ask.ensures.asks i less
+    ∙ ap (λ l. cond k.result None (ask_of x.program.codes.places.items i (end_at x.program.ends.items i).side (register_at l))) c.deref-3.ensures.value in
     let o = c.offer_phase in
     let applies2 : Applies x.program two o.new.state o.new.replies.items (length c.push.new.self.entries) = subst (Applies x.program two o.new.state o.new.replies.items) c.len-made.ensures o.ensures.applies in
-    let scratch : Scratch = record { answers = p.new.answers; replies = o.new.replies; asks = c.ask.new.asks; wires = k.new.wires; present = k.new.present; shown = c.pick.new.shown; zeros = x.scratch.zeros } in
-    let memory : HasScratch x.program scratch (length (tables_of x.system.value).signals) = record {
+    let scratch : Scratch = record { answers = p.new.answers; replies = o.new.replies; asks = c.ask.new.asks; wires = k.new.wires; present = k.new.present; zeros = x.scratch.zeros } in
+    let memory : HasScratch x.program scratch = record {
       answers = p.ensures.answers;
       replies = o.ensures.replies;
       asks = c.ask.ensures.len;
       wires = k.ensures.wires ∙ m.wires;
       present = k.ensures.present ∙ m.present;
-      shown = ap length c.pick.ensures.shown ∙ length-map c.deref-2.result.now (λ s. slice_index_or c.deref.result.now s false) ∙ ap length c.deref-2.ensures.value;
       zeros = m.zeros;
     } in
     tick_keeps E.moved E.count E.end_at x.system.value x.domain x.program x.state p.new.state x.scratch x.log p.new.answers.items c.args.ends.now p.new.ends c.self.invariant going running fits p.ensures.recalls applies
-    two o.new.state c.push.new.self k.new.present.items c.deref-3.result.now c.deref-4.result.now c.deref-6.result.now o.new.replies.items o.new.ends k.result (p.new.state.cause + 1)
-    room (k.ensures.present ∙ m.present) made k.ensures.registers refl refl refl refl (ap length p.ensures.standing ∙ c.self.invariant.parts.standing) refl c.if-stamp.false
-    picks (c.deref-4.ensures.value ∙ m.zeros) c.push.ensures asked o.ensures.offers applies2 o.ensures.standing o.ensures.length scratch memory
+    two o.new.state c.push.new.self c.deref.result.now c.deref-2.result.now c.deref-4.result.now o.new.replies.items o.new.ends k.result (p.new.state.cause + 1)
+    room made k.ensures.registers refl refl refl refl (ap length p.ensures.standing ∙ c.self.invariant.parts.standing) refl c.if-stamp.false
+    (c.deref-2.ensures.value ∙ m.zeros) c.push.ensures asked o.ensures.offers applies2 o.ensures.standing o.ensures.length scratch memory
 
 pub returns-clause-step : goal.returns-clause-step
 returns-clause-step g c =
@@ -152,21 +138,20 @@ returns-clause-step g c =
     let m = c.self.invariant.memory in
     let k = c.tick-ended in
     let two : State = record { registers = k.new.registers; standing = p.new.state.standing; joins = p.new.state.joins; stamp = p.new.state.cause + 1; cause = p.new.state.cause + 1; stopped = p.new.state.stopped } in
-    let made : MakesCodeTick x.program.codes (length x.log.entries) (register_at p.new.state.registers.items) (register_at k.new.registers.items) k.new.present.items k.result =
-    subst (λ n. MakesCodeTick x.program.codes n (register_at p.new.state.registers.items) (register_at k.new.registers.items) k.new.present.items k.result) c.len-ticks.ensures k.ensures.tick in
-    let picks : c.deref-3.result.now ≡ map (λ s. slice_index_or k.new.present.items s false) x.program.signals.items =
-    c.deref-3.ensures.value ∙ c.pick.ensures.shown ∙ ap (λ l. map (λ s. slice_index_or l s false) c.deref-2.result.now) c.deref.ensures.value ∙ ap (map (λ s. slice_index_or k.new.present.items s false)) c.deref-2.ensures.value in
-    let asked : (i : ℕ) → i < length x.program.ends.items → get_or c.deref-6.result.now i None ≡ cond k.result None (ask_of x.program.codes.places.items i (end_at x.program.ends.items i).side (register_at k.new.registers.items)) =
-    λ i less. ap (λ l. get_or l i None) c.deref-6.ensures.value ∙ c.ask.ensures.asks i less
-    ∙ ap (λ l. cond k.result None (ask_of x.program.codes.places.items i (end_at x.program.ends.items i).side (register_at l))) c.deref-5.ensures.value in
+    let made : MakesCodeTick x.program.codes (length x.log.entries) (register_at p.new.state.registers.items) (register_at k.new.registers.items) c.deref.result.now k.result =
+    subst (λ l. MakesCodeTick x.program.codes (length x.log.entries) (register_at p.new.state.registers.items) (register_at k.new.registers.items) l k.result) (sym c.deref.ensures.value)
+    (subst (λ n. MakesCodeTick x.program.codes n (register_at p.new.state.registers.items) (register_at k.new.registers.items) k.new.present.items k.result) c.len-ticks.ensures k.ensures.tick) in
+    let asked : (i : ℕ) → i < length x.program.ends.items → get_or c.deref-4.result.now i None ≡ cond k.result None (ask_of x.program.codes.places.items i (end_at x.program.ends.items i).side (register_at k.new.registers.items)) =
+    λ i less. ap (λ l. get_or l i None) c.deref-4.ensures.value ∙ c.ask.ensures.asks i less
+    ∙ ap (λ l. cond k.result None (ask_of x.program.codes.places.items i (end_at x.program.ends.items i).side (register_at l))) c.deref-3.ensures.value in
     let o = c.offer_phase in
     let applies2 : Applies x.program two o.new.state o.new.replies.items (length c.push.new.self.entries) = subst (Applies x.program two o.new.state o.new.replies.items) c.len-made.ensures o.ensures.applies in
     subst (λ r. IsStep E.moved no_inputs c.args.ends.now o.new.ends c.args.self.now (view_of x.system.value x.domain o.new.state c.push.new.self) r) (sym c.stepped_to.ensures)
     (subst (λ v. IsStep E.moved no_inputs c.args.ends.now o.new.ends v (view_of x.system.value x.domain o.new.state c.push.new.self) (stepped_to (cond k.result Ended Going))) c.self.view_is
     (tick_steps E.moved E.count E.end_at x.system.value x.domain x.program x.state p.new.state x.scratch x.log p.new.answers.items c.args.ends.now p.new.ends c.self.invariant going running fits p.ensures.recalls applies
-    two o.new.state c.push.new.self k.new.present.items c.deref-3.result.now c.deref-4.result.now c.deref-6.result.now o.new.replies.items o.new.ends k.result (p.new.state.cause + 1)
-    room (k.ensures.present ∙ m.present) made k.ensures.registers refl refl refl refl (ap length p.ensures.standing ∙ c.self.invariant.parts.standing) refl c.if-stamp.false
-    picks (c.deref-4.ensures.value ∙ m.zeros) c.push.ensures asked o.ensures.offers applies2 o.ensures.standing o.ensures.length))
+    two o.new.state c.push.new.self c.deref.result.now c.deref-2.result.now c.deref-4.result.now o.new.replies.items o.new.ends k.result (p.new.state.cause + 1)
+    room made k.ensures.registers refl refl refl refl (ap length p.ensures.standing ∙ c.self.invariant.parts.standing) refl c.if-stamp.false
+    (c.deref-2.ensures.value ∙ m.zeros) c.push.ensures asked o.ensures.offers applies2 o.ensures.standing o.ensures.length))
 
 pub returns-clause-leaves : goal.returns-clause-leaves
 returns-clause-leaves g c =
@@ -182,20 +167,19 @@ returns-clause-leaves g c =
     let m = c.self.invariant.memory in
     let k = c.tick-ended in
     let two : State = record { registers = k.new.registers; standing = p.new.state.standing; joins = p.new.state.joins; stamp = p.new.state.cause + 1; cause = p.new.state.cause + 1; stopped = p.new.state.stopped } in
-    let made : MakesCodeTick x.program.codes (length x.log.entries) (register_at p.new.state.registers.items) (register_at k.new.registers.items) k.new.present.items k.result =
-    subst (λ n. MakesCodeTick x.program.codes n (register_at p.new.state.registers.items) (register_at k.new.registers.items) k.new.present.items k.result) c.len-ticks.ensures k.ensures.tick in
-    let picks : c.deref-3.result.now ≡ map (λ s. slice_index_or k.new.present.items s false) x.program.signals.items =
-    c.deref-3.ensures.value ∙ c.pick.ensures.shown ∙ ap (λ l. map (λ s. slice_index_or l s false) c.deref-2.result.now) c.deref.ensures.value ∙ ap (map (λ s. slice_index_or k.new.present.items s false)) c.deref-2.ensures.value in
-    let asked : (i : ℕ) → i < length x.program.ends.items → get_or c.deref-6.result.now i None ≡ cond k.result None (ask_of x.program.codes.places.items i (end_at x.program.ends.items i).side (register_at k.new.registers.items)) =
-    λ i less. ap (λ l. get_or l i None) c.deref-6.ensures.value ∙ c.ask.ensures.asks i less
-    ∙ ap (λ l. cond k.result None (ask_of x.program.codes.places.items i (end_at x.program.ends.items i).side (register_at l))) c.deref-5.ensures.value in
+    let made : MakesCodeTick x.program.codes (length x.log.entries) (register_at p.new.state.registers.items) (register_at k.new.registers.items) c.deref.result.now k.result =
+    subst (λ l. MakesCodeTick x.program.codes (length x.log.entries) (register_at p.new.state.registers.items) (register_at k.new.registers.items) l k.result) (sym c.deref.ensures.value)
+    (subst (λ n. MakesCodeTick x.program.codes n (register_at p.new.state.registers.items) (register_at k.new.registers.items) k.new.present.items k.result) c.len-ticks.ensures k.ensures.tick) in
+    let asked : (i : ℕ) → i < length x.program.ends.items → get_or c.deref-4.result.now i None ≡ cond k.result None (ask_of x.program.codes.places.items i (end_at x.program.ends.items i).side (register_at k.new.registers.items)) =
+    λ i less. ap (λ l. get_or l i None) c.deref-4.ensures.value ∙ c.ask.ensures.asks i less
+    ∙ ap (λ l. cond k.result None (ask_of x.program.codes.places.items i (end_at x.program.ends.items i).side (register_at l))) c.deref-3.ensures.value in
     let o = c.offer_phase in
     let applies2 : Applies x.program two o.new.state o.new.replies.items (length c.push.new.self.entries) = subst (Applies x.program two o.new.state o.new.replies.items) c.len-made.ensures o.ensures.applies in
     subst (λ (v : DomainView). (n : ℕ) → n < length (ends_in v) → LeavesEnd (view_of x.system.value x.domain o.new.state c.push.new.self) n (E.end_at c.args.ends.now n) (E.end_at o.new.ends n)) c.self.view_is
     (tick_leaves E.moved E.count E.end_at x.system.value x.domain x.program x.state p.new.state x.scratch x.log p.new.answers.items c.args.ends.now p.new.ends c.self.invariant going running fits p.ensures.recalls applies
-    two o.new.state c.push.new.self k.new.present.items c.deref-3.result.now c.deref-4.result.now c.deref-6.result.now o.new.replies.items o.new.ends k.result (p.new.state.cause + 1)
-    room (k.ensures.present ∙ m.present) made k.ensures.registers refl refl refl refl (ap length p.ensures.standing ∙ c.self.invariant.parts.standing) refl c.if-stamp.false
-    picks (c.deref-4.ensures.value ∙ m.zeros) c.push.ensures asked o.ensures.offers applies2 o.ensures.standing o.ensures.length)
+    two o.new.state c.push.new.self c.deref.result.now c.deref-2.result.now c.deref-4.result.now o.new.replies.items o.new.ends k.result (p.new.state.cause + 1)
+    room made k.ensures.registers refl refl refl refl (ap length p.ensures.standing ∙ c.self.invariant.parts.standing) refl c.if-stamp.false
+    (c.deref-2.ensures.value ∙ m.zeros) c.push.ensures asked o.ensures.offers applies2 o.ensures.standing o.ensures.length)
 
 pub tick-ended-requires-clause-registers : goal.tick-ended-requires-clause-registers
 tick-ended-requires-clause-registers g c =
