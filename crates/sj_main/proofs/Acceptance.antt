@@ -1,5 +1,5 @@
 -- What an accepted source tells of its system.
-use Rattle.std.proofs.Common.{◌≡◌, ℕ, zero, suc, ◌+◌, ◌≤◌, ◌<◌, ◌==◌, Bool, true, false, ◌&&◌, ◌↔◌, nat_le, List, [], ◌∷◌, length, map, get_or, arith, refl, sym, ap, ◌∙◌, subst}
+use Rattle.std.proofs.Common.{◌≡◌, ℕ, zero, suc, ◌≤◌, ◌<◌, ◌==◌, Bool, true, false, ◌&&◌, ◌↔◌, nat_le, List, [], ◌∷◌, length, map, get_or, arith, refl, sym, ap, ◌∙◌, subst}
 use Rattle.std.proofs.lemmas.List.{length-map}
 use Rattle.std.proofs.lemmas.Bool.Decides.{nat_tests}
 use Rattle.kernel_terms.specs.declared.term.Term.{Term}
@@ -12,17 +12,17 @@ use Rattle.kernel_terms.specs.MayEnd.{LoopsWait}
 use Rattle.kernel_rules.specs.definitions.LegalTick.{Inputs}
 use Rattle.tick_tree.specs.definitions.Weight.{weight_of, most_weight}
 use Rattle.tick_tree.specs.definitions.Weight.{capped}
-use Rattle.domain_core.specs.definitions.step.Built.{is_built, size_of}
+use Rattle.domain_core.specs.definitions.step.Built.{is_built}
 use Rattle.domain_core.specs.definitions.step.PureSignals.{IsPureOutput, HasPureOutputs}
 use Rattle.domain_core.specs.definitions.runs.Systems.{source_of}
 use Rattle.domain_core.specs.definitions.runs.Systems.{Setup}
 use Rattle.domain_core.specs.definitions.runs.Systems as systems
 use Rattle.sj_main.specs.BuiltTerms.{AreBuilt}
-use Rattle.sj_main.specs.Reading.{IsReadAs, IsUnreadable}
+use Rattle.sj_main.specs.Reading.{IsReadAs}
 use Rattle.sj_main.specs.Rules.{Accepts}
 use Rattle.sj_main.specs.StaticRules.{AllKeepStaticRules, IsRefused}
 use Rattle.sj_main.specs.definitions.Grammar.{Program}
-use Rattle.sj_main.specs.definitions.Programs.{Interface, interface_of, domain_statements, tables_of_program, setup_of, emits_of, owner_of, signals_from}
+use Rattle.sj_main.specs.definitions.Programs.{Interface, port_interface, domain_statements, tables_of_program, program_setup, emits_of, owner_of, signals_from}
 
 -- rules on each domain, by number and as a list
 
@@ -55,9 +55,6 @@ capped_within n = (λ h. omega arith, λ h. omega arith)
 
 -- what is refused
 
-pub unreadable_refused : (bytes : List ℕ) → IsUnreadable bytes → IsRefused bytes
-unreadable_refused bytes u a = u a.program a.source.spells a.source.rules.ports
-
 pub broken_refused : (bytes : List ℕ) (system : System) → IsReadAs bytes system → (AllKeepStaticRules (map statement (domains_of system)) → ⊥) → IsRefused bytes
 broken_refused bytes system r broken a =
     let same : domain_statements a.program ≡ map statement (domains_of system) = ap domain_statements (r.only a.program a.source.spells) ∙ sym r.domains in
@@ -65,7 +62,7 @@ broken_refused bytes system r broken a =
 
 -- what is accepted
 
-setup_is : (system : System) (p : Program) (inputs : Inputs) → tables_of system ≡ tables_of_program p → map statement (domains_of system) ≡ domain_statements p → systems.setup_of system inputs ≡ setup_of p inputs
+setup_is : (system : System) (p : Program) (inputs : Inputs) → tables_of system ≡ tables_of_program p → map statement (domains_of system) ≡ domain_statements p → systems.setup_of system inputs ≡ program_setup p inputs
 setup_is system p inputs t d =
     ap (λ (x : Tables). let s : Setup = record { tables = x; statements = map statement (domains_of system); inputs = inputs } in s) t
     ∙ ap (λ (x : List Stmt). let s : Setup = record { tables = tables_of_program p; statements = x; inputs = inputs } in s) d
@@ -89,12 +86,9 @@ pure_at f k [] d (suc s) h = absurd (no_interface (0 == d) h)
 pure_at f k (n ∷ ns) d zero h = record { output = refl; pure = refl }
 pure_at f k (n ∷ ns) d (suc s) h = pure_at f (suc k) ns d s h
 
-size_within : (size bytes : ℕ) → size ≤ bytes + 1 → bytes ≤ 1048576 → size ≤ 1048577
-size_within size bytes a b = omega arith
-
 pub accepts : (bytes : List ℕ) (system : System) → IsReadAs bytes system → length bytes ≤ 1048576 → AllKeepStaticRules (map statement (domains_of system)) → Accepts bytes system
 accepts bytes system r few k =
-    let i = interface_of r.program.ports in
+    let i = port_interface r.program.ports in
     let rules = subst AllKeepStaticRules r.domains k in
     record {
       program = r.program;
@@ -112,7 +106,6 @@ accepts bytes system r few k =
         built = λ t. forms_at i (domains_of system) d t r.built l;
         loops = loops_at (map statement (domains_of system)) k d;
         weight = weight_at (map statement (domains_of system)) k d;
-        size = size_within (size_of (source_of system d)) (length bytes) (subst (λ ps. size_of (get_or ps d Nothing) ≤ length bytes + 1) (sym r.domains) (r.size d)) few;
         pure = subst (λ (t : Tables). HasPureOutputs t d) (sym r.tables) (λ s h. pure_at (owner_of emits_of (domain_statements r.program)) 0 i.signals d s h);
       };
     }

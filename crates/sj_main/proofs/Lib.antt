@@ -10,11 +10,14 @@ pub mod ServeLemmas
 mod ReadPorts
 mod ReadGrammar
 mod ReadTokens
+mod TokenPlaces
 mod ReadBlocks
+mod NameNumbers
 mod ReadNames
 mod ReadTerms
 mod ReadOwners
 mod ReadTables
+mod PortLimits
 mod ReadDomains
 mod ReadSystems
 mod ReadPrograms

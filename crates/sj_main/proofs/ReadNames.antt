@@ -1,17 +1,16 @@
 -- Looking up and declaring names.
 use Rattle.std.proofs.Common.{◌≡◌, ℕ, suc, ◌+◌, ◌<◌, Bool, true, false, ◌&&◌, ◌||◌, not, cond, nat_lt, List, [], ◌∷◌, ◌++◌, length, map, Some, None, ap, refl, sym, ◌∙◌, arith}
-use Rattle.std.specs.Prelude.{position, MatchBool, if◌then◌else◌}
+use Rattle.std.specs.Prelude.{position, Option, MatchOption}
 use Rattle.std.specs.List.{list_any, position_or_len}
 use Rattle.std.specs.Str.{bytes_eq}
 use Rattle.std.proofs.lemmas.List.Folds.{list_any-append}
-use Rattle.std.proofs.lemmas.List.{map-append}
 use Rattle.std.proofs.lemmas.Bool.Decides.{nat_tests}
 use Rattle.std.proofs.lemmas.Slice.Eq.{bytes_eq-Decides}
 use Rattle.java_values.specs.Names.{are_distinct}
 use Rattle.sj_main.specs.definitions.Grammar.{Port, SignalPort, ChannelPort}
-use Rattle.sj_main.specs.definitions.Programs.{Interface, interface_of, signal_names, channel_names}
+use Rattle.sj_main.specs.definitions.Programs.{Interface, port_interface, port_signals, port_channels}
 use Rattle.sj_main.specs.definitions.Accepted.{port_names}
-use Rattle.sj_main.specs.ReadingNames.{IsPlace, IsAdded, with_port, is_taken}
+use Rattle.sj_main.specs.ReadingNames.{IsPlace, with_port, is_taken}
 
 suc_lt : (a b : ℕ) → nat_lt (1 + a) (suc b) ≡ nat_lt a b
 suc_lt a b = same_by_omega (nat_lt (1 + a) (suc b)) (nat_lt a b) (λ h. grind (arith, nat_tests)) (λ h. grind (arith, nat_tests))
@@ -29,7 +28,7 @@ any_at_head true c n m h = zero_lt m
 any_at_head false c n m h = suc_lt n m ∙ h
 
 -- a place below the length is one that passes
-any_at : {X : Type 0} (p : X → Bool) (xs : List X) → nat_lt (position_or_len p xs) (length xs) ≡ list_any p xs
+pub any_at : {X : Type 0} (p : X → Bool) (xs : List X) → nat_lt (position_or_len p xs) (length xs) ≡ list_any p xs
 any_at p [] = refl
 any_at p (x ∷ xs) = any_at_head (p x) (list_any p xs) (position_or_len p xs) (length xs) (any_at p xs)
 
@@ -37,7 +36,7 @@ position_map : {X Y : Type 0} (p : Y → Bool) (f : X → Y) (xs : List X) → p
 position_map p f [] = refl
 position_map p f (x ∷ xs) = ap (λ n. cond (not (p (f x))) (1 + n) 0) (position_map p f xs)
 
-any_map : {X Y : Type 0} (p : Y → Bool) (f : X → Y) (xs : List X) → list_any (λ x. p (f x)) xs ≡ list_any p (map f xs)
+pub any_map : {X Y : Type 0} (p : Y → Bool) (f : X → Y) (xs : List X) → list_any (λ x. p (f x)) xs ≡ list_any p (map f xs)
 any_map p f [] = refl
 any_map p f (x ∷ xs) = ap (λ b. p (f x) || b) (any_map p f xs)
 
@@ -56,7 +55,7 @@ by_missing false n h = refl
 below : (a b : ℕ) → nat_lt a b ≡ true → a < b
 below a b h = grind (arith, nat_tests)
 
-pub place_found : {X : Type 0} (f : X → List ℕ) (xs : List X) (name : List ℕ) (i : ℕ) → position (λ x. bytes_eq name (f x)) xs ≡ Some i → IsPlace (map f xs) name i
+place_found : {X : Type 0} (f : X → List ℕ) (xs : List X) (name : List ℕ) (i : ℕ) → position (λ x. bytes_eq name (f x)) xs ≡ Some i → IsPlace (map f xs) name i
 place_found f xs name i h =
     let b = by_found (nat_lt (position_or_len (λ x. bytes_eq name (f x)) xs) (length xs)) (position_or_len (λ x. bytes_eq name (f x)) xs) i h in
     let e = position_map (bytes_eq name) f xs in
@@ -67,10 +66,14 @@ place_found f xs name i h =
       within = let k = below (position_or_len (λ x. bytes_eq name (f x)) xs) (length xs) b.0 in omega (arith, b.1, l);
     }
 
-pub place_missing : {X : Type 0} (f : X → List ℕ) (xs : List X) (name : List ℕ) → position (λ x. bytes_eq name (f x)) xs ≡ None → list_any (bytes_eq name) (map f xs) ≡ false
+place_missing : {X : Type 0} (f : X → List ℕ) (xs : List X) (name : List ℕ) → position (λ x. bytes_eq name (f x)) xs ≡ None → list_any (bytes_eq name) (map f xs) ≡ false
 place_missing f xs name h =
     let b = by_missing (nat_lt (position_or_len (λ x. bytes_eq name (f x)) xs) (length xs)) (position_or_len (λ x. bytes_eq name (f x)) xs) h in
     sym (any_map (bytes_eq name) f xs) ∙ sym (any_at (λ x. bytes_eq name (f x)) xs) ∙ b
+
+pub place_of : {X : Type 0} (f : X → List ℕ) (xs : List X) (name : List ℕ) (found : Option ℕ) → found ≡ position (λ x. bytes_eq name (f x)) xs → MatchOption found (list_any (bytes_eq name) (map f xs) ≡ false) (IsPlace (map f xs) name)
+place_of f xs name None h = place_missing f xs name (sym h)
+place_of f xs name (Some i) h = place_found f xs name i (sym h)
 
 bytes_swap : (a b : List ℕ) → bytes_eq a b ≡ bytes_eq b a
 bytes_swap a b = same (bytes_eq a b) (bytes_eq b a) (λ h. (bytes_eq-Decides b a).1 (sym ((bytes_eq-Decides a b).0 h))) (λ h. (bytes_eq-Decides a b).1 (sym ((bytes_eq-Decides b a).0 h)))
@@ -105,30 +108,9 @@ distinct_not (n ∷ ns) more name d =
     step false true m false f c h k i = cc
     step false false m false f c h k i = i h
 
-not_true : (b : Bool) → true ≡ not b → b ≡ false
-not_true true h = cc
-not_true false h = refl
-
-not_false : (b : Bool) → false ≡ not b → b ≡ true
-not_false true h = refl
-not_false false h = cc
-
-pub added_both : {X : Type 0} (f : X → List ℕ) (old new : List X) (v : X) (name : List ℕ) (added : Bool) → f v ≡ name
-    → added ≡ not (list_any (λ k. bytes_eq (f v) (f k)) old) → new ≡ (if list_any (λ k. bytes_eq (f v) (f k)) old then old else old ++ v ∷ [])
-    → MatchBool added (IsAdded (map f old) (map f new) name) (list_any (bytes_eq name) (map f old) ≡ true)
-added_both f old new v name true e h k =
-    let b = not_true (list_any (λ x. bytes_eq (f v) (f x)) old) h in
-    record {
-      names = ap (map f) (k ∙ ap (λ c. if c then old else old ++ v ∷ []) b) ∙ map-append f old (v ∷ []) ∙ ap (λ w. map f old ++ w ∷ []) e;
-      free = ap (λ w. list_any (bytes_eq w) (map f old)) (sym e) ∙ sym (any_map (bytes_eq (f v)) f old) ∙ b;
-    }
-added_both f old new v name false e h k =
-    let b = not_false (list_any (λ x. bytes_eq (f v) (f x)) old) h in
-    ap (λ w. list_any (bytes_eq w) (map f old)) (sym e) ∙ sym (any_map (bytes_eq (f v)) f old) ∙ b
-
 -- the interface of ports, of which one more is declared
 
-pub interface_push : (ports : List Port) (port : Port) → interface_of (ports ++ port ∷ []) ≡ with_port (interface_of ports) port
+pub interface_push : (ports : List Port) (port : Port) → port_interface (ports ++ port ∷ []) ≡ with_port (port_interface ports) port
 interface_push [] (SignalPort n) = refl
 interface_push [] (ChannelPort n) = refl
 interface_push (SignalPort m ∷ ports) (SignalPort n) = ap (λ (i : Interface). let j : Interface = record { signals = m ∷ i.signals; channels = i.channels } in j) (interface_push ports (SignalPort n))
@@ -146,10 +128,10 @@ at_right true false c n h = refl
 at_right false s c n h = h
 
 -- a name of a port is the name of a signal or of a channel
-pub taken_is : (ports : List Port) (name : List ℕ) → list_any (bytes_eq name) (port_names ports) ≡ is_taken (interface_of ports) name
+pub taken_is : (ports : List Port) (name : List ℕ) → list_any (bytes_eq name) (port_names ports) ≡ is_taken (port_interface ports) name
 taken_is [] name = refl
-taken_is (SignalPort m ∷ ports) name = at_left (bytes_eq name m) (list_any (bytes_eq name) (signal_names ports)) (list_any (bytes_eq name) (channel_names ports)) (list_any (bytes_eq name) (port_names ports)) (taken_is ports name)
-taken_is (ChannelPort m ∷ ports) name = at_right (bytes_eq name m) (list_any (bytes_eq name) (signal_names ports)) (list_any (bytes_eq name) (channel_names ports)) (list_any (bytes_eq name) (port_names ports)) (taken_is ports name)
+taken_is (SignalPort m ∷ ports) name = at_left (bytes_eq name m) (list_any (bytes_eq name) (port_signals ports)) (list_any (bytes_eq name) (port_channels ports)) (list_any (bytes_eq name) (port_names ports)) (taken_is ports name)
+taken_is (ChannelPort m ∷ ports) name = at_right (bytes_eq name m) (list_any (bytes_eq name) (port_signals ports)) (list_any (bytes_eq name) (port_channels ports)) (list_any (bytes_eq name) (port_names ports)) (taken_is ports name)
 
 -- a name between others that keep apart
 distinct_insert : (ns ms : List (List ℕ)) (name : List ℕ) → are_distinct (ns ++ ms) ≡ true → list_any (bytes_eq name) (ns ++ ms) ≡ false → are_distinct (ns ++ name ∷ ms) ≡ true
@@ -166,19 +148,19 @@ distinct_insert (n ∷ ns) ms name d h =
     step false false false c d false e f h k i j g = ap (λ x. not x && f) j ∙ g h k
 
 -- no signal has the name of another port, and no channel
-pub distinct_names : (ports : List Port) → are_distinct (port_names ports) ≡ true → are_distinct (signal_names ports ++ channel_names ports) ≡ true
+pub distinct_names : (ports : List Port) → are_distinct (port_names ports) ≡ true → are_distinct (port_signals ports ++ port_channels ports) ≡ true
 distinct_names [] h = refl
 distinct_names (SignalPort m ∷ ports) h =
-    step (list_any (bytes_eq m) (port_names ports)) (list_any (bytes_eq m) (signal_names ports ++ channel_names ports)) (are_distinct (port_names ports)) (are_distinct (signal_names ports ++ channel_names ports)) h
-    (taken_is ports m ∙ sym (list_any-append (bytes_eq m) (signal_names ports) (channel_names ports))) (distinct_names ports)
+    step (list_any (bytes_eq m) (port_names ports)) (list_any (bytes_eq m) (port_signals ports ++ port_channels ports)) (are_distinct (port_names ports)) (are_distinct (port_signals ports ++ port_channels ports)) h
+    (taken_is ports m ∙ sym (list_any-append (bytes_eq m) (port_signals ports) (port_channels ports))) (distinct_names ports)
   where
     step : (a b c d : Bool) → (not a && c) ≡ true → a ≡ b → (c ≡ true → d ≡ true) → (not b && d) ≡ true
     step true b c d h k i = cc
     step false b c d h k i = ap (λ x. not x && d) (sym k) ∙ i h
 distinct_names (ChannelPort m ∷ ports) h =
     let p = parts (list_any (bytes_eq m) (port_names ports)) (are_distinct (port_names ports)) h in
-    distinct_insert (signal_names ports) (channel_names ports) m (distinct_names ports p.1)
-    (list_any-append (bytes_eq m) (signal_names ports) (channel_names ports) ∙ sym (taken_is ports m) ∙ p.0)
+    distinct_insert (port_signals ports) (port_channels ports) m (distinct_names ports p.1)
+    (list_any-append (bytes_eq m) (port_signals ports) (port_channels ports) ∙ sym (taken_is ports m) ∙ p.0)
   where
     parts : (a c : Bool) → (not a && c) ≡ true → (a ≡ false) × (c ≡ true)
     parts true c h = cc

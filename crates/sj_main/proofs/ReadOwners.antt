@@ -1,8 +1,9 @@
 -- Which domain each signal and channel belongs to.
-use Rattle.std.proofs.Common.{◌≡◌, ◌≢◌, ℕ, zero, suc, ◌+◌, ◌<◌, Bool, true, false, ◌||◌, ◌==◌, cond, List, [], ◌∷◌, ◌++◌, length, map, drop, get_or, Option, Some, None, ap, refl, sym, ◌∙◌, subst, append_assoc, arith, add-one, length-append, append-nil, inl, inr, ◌⊎◌, nat_eq}
+use Rattle.std.proofs.Common.{◌≡◌, ◌≢◌, ℕ, zero, suc, ◌+◌, ◌<◌, Bool, true, false, ◌||◌, ◌==◌, cond, List, [], ◌∷◌, ◌++◌, length, map, drop, replicate, get_or, Option, Some, None, ap, refl, sym, ◌∙◌, subst, append_assoc, arith, add-one, length-append, append-nil, inl, inr, ◌⊎◌, nat_eq}
 use Rattle.std.proofs.Math.Seq.{drop-cons}
 use Rattle.std.specs.Prelude.{MatchBool}
 use Rattle.std.proofs.lemmas.Bool.Decides.{nat_tests}
+use Rattle.std.proofs.lemmas.List.{length-replicate}
 use Rattle.std.proofs.lemmas.List.Folds.{list_any-append}
 use Rattle.kernel_terms.specs.declared.term.Term.{Term}
 use Rattle.kernel_terms.specs.declared.term.Form as form
@@ -430,25 +431,16 @@ owners_found r i all front owners d l o = record { are = owners_end r i all fron
 pub drop_first : (ts : List Term) (i : ℕ) (t : Term) → i < length ts → t ≡ get_or ts i t → drop i ts ≡ t ∷ drop (i + 1) ts
 drop_first ts i t lt is = rw (add-one, drop-cons ts i t lt) (ap (λ x. x ∷ drop (suc i) ts) (sym is))
 
-none_in : (xs : List (Option ℕ)) (n : ℕ) → get_or xs n None ≡ None → get_or (xs ++ None ∷ []) n None ≡ None
-none_in [] zero h = refl
-none_in [] (suc n) h = refl
-none_in (x ∷ xs) zero h = h
-none_in (x ∷ xs) (suc n) h = none_in xs n h
-
-pub unowned_start : (xs : List (Option ℕ)) → xs ≡ [] → AreUnowned xs 0
-unowned_start xs h = record { none = λ n. ap (λ l. get_or l n None) h; size = ap length h }
-
-pub unowned_push : (xs ys : List (Option ℕ)) (k : ℕ) → AreUnowned xs k → ys ≡ xs ++ None ∷ [] → AreUnowned ys (k + 1)
-unowned_push xs ys k u e = record {
-  none = λ n. ap (λ l. get_or l n None) e ∙ none_in xs n (u.none n);
-  size = let s = u.size in let a = ap length e in let b = length-append xs (None ∷ []) in omega arith;
-}
+pub all_unowned : (xs : List (Option ℕ)) (k : ℕ) → xs ≡ replicate k None → AreUnowned xs k
+all_unowned xs k e = record { none = λ n. ap (λ l. get_or l n None) e ∙ unowned_at k n; size = ap length e ∙ length-replicate k None }
+  where
+    unowned_at : (k n : ℕ) → get_or (replicate {A = Option ℕ} k None) n None ≡ None
+    unowned_at zero n = refl
+    unowned_at (suc k) zero = refl
+    unowned_at (suc k) (suc n) = unowned_at k n
 
 pub owners_begin : (r : Role) (i : Interface) (all : List Term) (owners : List (Option ℕ)) (k : ℕ) → AreBuilt i all → AreUnowned owners k → k ≡ limit_of r i → OwnersReach r i all all owners 0
 owners_begin r i all owners k b u s = owners_start r i all owners b u.none (u.size ∙ s)
-
-pub ruleset unowned_steps = (unowned_start, unowned_push)
 
 pub ruleset first_domains = (drop_first)
 

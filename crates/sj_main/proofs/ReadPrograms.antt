@@ -1,5 +1,5 @@
 -- A program as a whole.
-use Rattle.std.proofs.Common.{◌≡◌, ◌≤◌, ◌<◌, true, List, [], ◌∷◌, length, map, ap, sym, ◌∙◌, subst, arith}
+use Rattle.std.proofs.Common.{◌≡◌, ◌≤◌, true, List, [], ◌∷◌, length, map, ap, sym, ◌∙◌, subst, arith}
 use Rattle.std.proofs.lemmas.List.{length-map}
 use Rattle.kernel_terms.specs.declared.term.Term.{Term}
 use Rattle.kernel_terms.specs.declared.tables.Tables.{Tables}
@@ -14,12 +14,12 @@ use Rattle.sj_main.specs.declared.token.Mark.TheVariants as mark
 use Rattle.sj_main.specs.BuiltTerms.{AreBuilt}
 use Rattle.kernel_terms.specs.Statements.{statement}
 use Rattle.sj_main.specs.definitions.Grammar.{Block, Port, Program, ports_tokens, domain_tokens, others_tokens, program_tokens}
-use Rattle.sj_main.specs.definitions.Programs.{Interface, interface_of, block_statement, domain_statements, tables_for}
+use Rattle.sj_main.specs.definitions.Programs.{Interface, port_interface, block_statement, domain_statements, tables_for}
 use Rattle.sj_main.specs.definitions.Accepted.{KeepBlocks, KeepsOwners}
-use Rattle.sj_main.specs.ReadingNames.{IsSmall}
 use Rattle.sj_main.specs.ReadingOwners.{AreTablesOf, BreaksOwners}
 use Rattle.sj_main.specs.ReadingPrograms.{StartsProgram, StartsNoProgram, PortsRead, NoPorts, DomainsRead, NoDomains, PortsAreNamed, IsReadFrom, NoProgram}
-use Rattle.sj_main.proofs.ReadPorts.{ports_once, read_small}
+use Rattle.sj_main.proofs.ReadPorts.{ports_once}
+use Rattle.sj_main.proofs.PortLimits.{ports_within}
 use Rattle.sj_main.proofs.ReadGrammar.{domain_once, others_once}
 use Rattle.sj_main.proofs.ReadSystems.{well_formed}
 
@@ -35,26 +35,15 @@ after_ports p = domain_tokens p.first (others_tokens p.others (Sign mark.CloseBr
 inner_is : (p : Program) (tokens inner : List Token) → StartsProgram tokens inner → tokens ≡ program_tokens p → inner ≡ ports_tokens p.ports (Sign mark.CloseBrace ∷ after_ports p)
 inner_is p tokens inner s h = same_ports tokens inner (ports_tokens p.ports (Sign mark.CloseBrace ∷ after_ports p)) s (record { is = h })
 
-pub inner_small : (tokens inner : List Token) → StartsProgram tokens inner → length tokens ≤ 1048576 → length inner ≤ 1048576
-inner_small tokens inner s l = let a = ap length s.is in omega arith
-
-pub names_small : (tokens inner rest : List Token) (i : Interface) → StartsProgram tokens inner → PortsRead inner i rest → length tokens ≤ 1048576 → IsSmall i
-names_small tokens inner rest i s r l = read_small inner rest i r (inner_small tokens inner s l)
-
 pub program_ports : (tokens inner : List Token) → StartsProgram tokens inner → NoPorts inner → NoProgram tokens
-program_ports tokens inner s n = record { none = λ p h k. n.none p.ports (after_ports p) (record { is = inner_is p tokens inner s h }) k.names.distinct }
+program_ports tokens inner s n = record { none = λ p h k. n.none p.ports (after_ports p) (record { is = inner_is p tokens inner s h }) k.names.distinct (ports_within p k) }
 
 -- the ports that were read are those of any program with these tokens
 rest_of : (p : Program) (tokens inner rest : List Token) (i : Interface) → StartsProgram tokens inner → (r : PortsRead inner i rest) → tokens ≡ program_tokens p → (r.ports ≡ p.ports) × (rest ≡ after_ports p)
 rest_of p tokens inner rest i s r h = ports_once r.ports p.ports rest (after_ports p) (sym r.is.is ∙ inner_is p tokens inner s h)
 
-interface_is : (p : Program) (tokens inner rest : List Token) (i : Interface) → StartsProgram tokens inner → PortsRead inner i rest → tokens ≡ program_tokens p → i ≡ interface_of p.ports
-interface_is p tokens inner rest i s r h = r.interface ∙ ap interface_of (rest_of p tokens inner rest i s r h).0
-
-pub program_channels : (tokens inner rest : List Token) (i : Interface) → StartsProgram tokens inner → PortsRead inner i rest → most_channels < length i.channels → NoProgram tokens
-program_channels tokens inner rest i s r m = record {
-  none = λ p h k. (let e = ap (λ (x : Interface). length x.channels) (interface_is p tokens inner rest i s r h) in let l = k.names.channels in omega arith);
-}
+interface_is : (p : Program) (tokens inner rest : List Token) (i : Interface) → StartsProgram tokens inner → PortsRead inner i rest → tokens ≡ program_tokens p → i ≡ port_interface p.ports
+interface_is p tokens inner rest i s r h = r.interface ∙ ap port_interface (rest_of p tokens inner rest i s r h).0
 
 pub program_domains : (tokens inner rest : List Token) (i : Interface) → StartsProgram tokens inner → PortsRead inner i rest → NoDomains i rest → NoProgram tokens
 program_domains tokens inner rest i s r n = record {
@@ -76,7 +65,7 @@ pub program_owners : (tokens inner rest : List Token) (i : Interface) (terms : L
 program_owners tokens inner rest i terms s r d b = record {
   none = λ p h k.
       b.none (subst (λ x. KeepsOwners x (map statement terms)) (sym (interface_is p tokens inner rest i s r h))
-      (subst (λ x. KeepsOwners (interface_of p.ports) x) (statements_are p tokens inner rest i terms s r d h) k.owners));
+      (subst (λ x. KeepsOwners (port_interface p.ports) x) (statements_are p tokens inner rest i terms s r d h) k.owners));
 }
 
 -- the program that was read
@@ -94,22 +83,22 @@ count_of_terms i rest terms d = sym (length-map terms statement) ∙ ap length d
 pub few_terms : (i : Interface) (rest : List Token) (terms : List Term) → DomainsRead i rest terms → length terms ≤ 16
 few_terms i rest terms d = let a = count_of_terms i rest terms d in let b = d.few in omega arith
 
-pub program_formed : (tokens inner rest : List Token) (i : Interface) (terms : List Term) (tables : Tables) → PortsAreNamed tokens → StartsProgram tokens inner → PortsRead inner i rest → length i.channels ≤ most_channels → DomainsRead i rest terms
+pub program_formed : (tokens inner rest : List Token) (i : Interface) (terms : List Term) (tables : Tables) → PortsAreNamed tokens → StartsProgram tokens inner → PortsRead inner i rest → DomainsRead i rest terms
     → AreTablesOf i (map statement terms) tables → is_well_formed tables terms ≡ true
-program_formed tokens inner rest i terms tables n s r c d a =
+program_formed tokens inner rest i terms tables n s r d a =
     let count = count_of_terms i rest terms d in
     let few = d.few in
-    well_formed i r.ports terms tables r.interface (n.named (program_of r.ports d.first d.others) (tokens_are tokens inner rest i terms s r d)) r.distinct c (omega arith) (omega arith) d.built a
+    well_formed i r.ports terms tables r.interface (n.named (program_of r.ports d.first d.others) (tokens_are tokens inner rest i terms s r d)) r.distinct r.limits.channels (omega arith) (omega arith) d.built a
 
-pub program_read : (tokens inner rest : List Token) (i : Interface) (terms : List Term) (tables : Tables) (system : System) → StartsProgram tokens inner → PortsRead inner i rest → length i.channels ≤ most_channels → DomainsRead i rest terms
+pub program_read : (tokens inner rest : List Token) (i : Interface) (terms : List Term) (tables : Tables) (system : System) → StartsProgram tokens inner → PortsRead inner i rest → DomainsRead i rest terms
     → AreTablesOf i (map statement terms) tables → tables_of system ≡ tables → domains_of system ≡ terms → IsReadFrom tokens system
-program_read tokens inner rest i terms tables system s r c d a t e = record {
+program_read tokens inner rest i terms tables system s r d a t e = record {
   program = program_of r.ports d.first d.others;
   is = tokens_are tokens inner rest i terms s r d;
   rules = record {
     names = record {
       distinct = r.distinct;
-      channels = subst (λ x. length x.channels ≤ most_channels) r.interface c;
+      channels = subst (λ x. length x.channels ≤ most_channels) r.interface r.limits.channels;
       domains = d.few;
       blocks = subst (λ x. KeepBlocks x (d.first ∷ d.others)) r.interface d.keeps;
     };
@@ -120,4 +109,4 @@ program_read tokens inner rest i terms tables system s r c d a t e = record {
   built = subst (λ x. AreBuilt x (domains_of system)) r.interface (subst (λ x. AreBuilt i x) (sym e) d.built);
 }
 
-pub ruleset program_steps = (program_head, program_ports, inner_small, names_small, few_terms)
+pub ruleset program_steps = (program_head, program_ports, few_terms)

@@ -1,21 +1,18 @@
 -- What a source's bytes say of its program.
-use Rattle.std.proofs.Common.{◌≡◌, ℕ, zero, suc, ◌+◌, ◌≤◌, ℤ, Bool, true, false, ◌&&◌, cond, ◌==◌, List, [], ◌∷◌, length, map, get_or, drop, Option, Some, None, ap, refl, arith, subst, length-append}
+use Rattle.std.proofs.Common.{◌≡◌, ℕ, ℤ, Bool, true, false, ◌&&◌, cond, ◌==◌, List, [], ◌∷◌, drop, Option, Some, None, ap, refl, subst}
 use Rattle.std.specs.List.{list_all, prefix_len, take_while}
 use Rattle.java_values.specs.Names.{is_letter, is_word_byte, is_name}
 use Rattle.kernel_terms.specs.declared.system.System.{System}
-use Rattle.kernel_terms.specs.Statements.{Stmt, Nothing, sequence, sequence_from}
 use Rattle.sj_main.specs.declared.token.Token.{Token}
 use Rattle.sj_main.specs.declared.token.Token.TheVariants.{Sign, Name}
 use Rattle.sj_main.specs.declared.token.Mark.TheVariants as mark
-use Rattle.domain_core.specs.definitions.step.Built.{size_of}
 use Rattle.sj_main.specs.definitions.Tokens.{skip_white, next_token, with_rest, word_token, run_token, literal_value, as_number, sign_token, sign_front, Spells}
-use Rattle.sj_main.specs.definitions.Grammar.{Block, Done, EmptyThen, PauseThen, EmitThen, WhileThen, SendThen, ReceiveThen, Port, SignalPort, ChannelPort, Program, block_tokens, port_tokens, ports_tokens, domain_tokens, others_tokens, program_tokens}
-use Rattle.sj_main.specs.definitions.Programs.{Interface, interface_of, parts_of, block_statement, domain_statements}
+use Rattle.sj_main.specs.definitions.Grammar.{Port, SignalPort, ChannelPort, Program, ports_tokens, program_tokens}
 use Rattle.sj_main.specs.definitions.Accepted.{port_names, IsSourceOf}
 use Rattle.sj_main.specs.Reading.{IsReadAs, IsUnreadable}
 use Rattle.sj_main.specs.ReadingTokens.{SpellsNothing}
 use Rattle.sj_main.specs.ReadingPrograms.{PortsAreNamed, IsReadFrom, NoProgram}
-use Rattle.sj_main.proofs.ReadTokens.{spells_once, spelled_length, word_gives_name}
+use Rattle.sj_main.proofs.ReadTokens.{spells_once, word_gives_name}
 use Rattle.sj_main.proofs.ReadGrammar.{program_once}
 
 -- a name that is spelled is a name
@@ -89,68 +86,6 @@ program_named bytes p s = ports_named s.2.2.2.0 p.ports _ s.2.2.2.2
 pub spelled_names : (bytes : List ℕ) (tokens : List Token) → Spells bytes tokens → PortsAreNamed tokens
 spelled_names bytes tokens s = record { named = λ p h. let P : List Token → Type 0 = λ t. Spells bytes t in program_named bytes p (subst P h s) }
 
-pub spelled_small : (bytes : List ℕ) (tokens : List Token) → Spells bytes tokens → length bytes ≤ 1048576 → length tokens ≤ 1048576
-spelled_small bytes tokens s l = let a = spelled_length bytes tokens s in omega arith
-
--- how large the statements are
-total : List Stmt → ℕ
-total [] = 0
-total (p ∷ ps) = size_of p + total ps
-
-size_from : (p : Stmt) (ps : List Stmt) → size_of (sequence_from p ps) ≡ size_of p + total ps
-unfolding total
-size_from p [] = omega arith
-size_from p (q ∷ qs) = ap (λ n. size_of p + n) (size_from q qs)
-
-size_sequence : (ps : List Stmt) → size_of (sequence ps) ≤ total ps + 1
-unfolding total
-size_sequence [] = omega arith
-size_sequence (p ∷ ps) = let e = size_from p ps in omega arith
-
-size_parts : (i : Interface) (b : Block) → total (parts_of i b) ≤ length (block_tokens b)
-unfolding total
-size_parts i Done = omega arith
-size_parts i (EmptyThen b) = let h = size_parts i b in omega arith
-size_parts i (PauseThen b) = let h = size_parts i b in omega arith
-size_parts i (EmitThen n b) = let h = size_parts i b in omega arith
-size_parts i (WhileThen a b) =
-    let h = size_parts i b in
-    let g = size_parts i a in
-    let s = size_sequence (parts_of i a) in
-    let l = length-append (block_tokens a) (Sign mark.CloseBrace ∷ block_tokens b) in
-    omega arith
-size_parts i (SendThen n z b) = let h = size_parts i b in omega arith
-size_parts i (ReceiveThen n b) = let h = size_parts i b in omega arith
-
-size_block : (i : Interface) (b : Block) → size_of (block_statement i b) ≤ length (block_tokens b) + 1
-size_block i b = let a = size_sequence (parts_of i b) in let c = size_parts i b in omega arith
-
-size_others : (i : Interface) (bs : List Block) (after : List Token) (d : ℕ) → size_of (get_or (map (block_statement i) bs) d Nothing) ≤ length (others_tokens bs after) + 1
-size_others i [] after zero = omega arith
-size_others i [] after (suc d) = omega arith
-size_others i (b ∷ bs) after zero = let a = size_block i b in let l = length-append (block_tokens b) (Sign mark.CloseBrace ∷ others_tokens bs after) in omega arith
-size_others i (b ∷ bs) after (suc d) = let a = size_others i bs after d in let l = length-append (block_tokens b) (Sign mark.CloseBrace ∷ others_tokens bs after) in omega arith
-
-size_domains : (i : Interface) (b : Block) (bs : List Block) (after : List Token) (d : ℕ) → size_of (get_or (map (block_statement i) (b ∷ bs)) d Nothing) ≤ length (domain_tokens b (others_tokens bs after)) + 1
-size_domains i b bs after zero = let a = size_block i b in let l = length-append (block_tokens b) (Sign mark.CloseBrace ∷ others_tokens bs after) in omega arith
-size_domains i b bs after (suc d) = let a = size_others i bs after d in let l = length-append (block_tokens b) (Sign mark.CloseBrace ∷ others_tokens bs after) in omega arith
-
-port_length : (p : Port) (after : List Token) → length after ≤ length (port_tokens p after)
-port_length (SignalPort n) after = omega arith
-port_length (ChannelPort n) after = omega arith
-
-ports_length : (ports : List Port) (after : List Token) → length after ≤ length (ports_tokens ports after)
-ports_length [] after = omega arith
-ports_length (p ∷ ports) after = let a = ports_length ports after in let b = port_length p (ports_tokens ports after) in omega arith
-
-source_size : (bytes : List ℕ) (p : Program) → Spells bytes (program_tokens p) → (d : ℕ) → size_of (get_or (domain_statements p) d Nothing) ≤ length bytes + 1
-source_size bytes p s d =
-    let all = domain_tokens p.first (others_tokens p.others (Sign mark.CloseBrace ∷ [])) in
-    let a = size_domains (interface_of p.ports) p.first p.others (Sign mark.CloseBrace ∷ []) d in
-    let b = ports_length p.ports (Sign mark.CloseBrace ∷ all) in
-    let c = spelled_length bytes (program_tokens p) s in
-    omega arith
-
 pub read_as : (bytes : List ℕ) (tokens : List Token) (system : System) → Spells bytes tokens → IsReadFrom tokens system → IsReadAs bytes system
 read_as bytes tokens system s r =
     let P : List Token → Type 0 = λ t. Spells bytes t in
@@ -163,7 +98,6 @@ read_as bytes tokens system s r =
       tables = r.tables;
       domains = r.domains;
       built = r.built;
-      size = source_size bytes r.program h;
     }
 
 pub unreadable_bytes : (bytes : List ℕ) → SpellsNothing bytes → IsUnreadable bytes

@@ -24,7 +24,7 @@ use Rattle.sj_main.specs.declared.reader.owners.Role.{Role}
 use Rattle.sj_main.specs.declared.reader.owners.Role.TheVariants as role
 use Rattle.sj_main.specs.BuiltTerms.{is_int, is_within, AreBuilt}
 use Rattle.sj_main.specs.definitions.Grammar.{Port, SignalPort, ChannelPort}
-use Rattle.sj_main.specs.definitions.Programs.{Interface, interface_of, signal_names, channel_names, emits_of, sends_of, receives_of, first_with, owner_of, signals_from, channels_from, tables_for}
+use Rattle.sj_main.specs.definitions.Programs.{Interface, port_interface, port_signals, port_channels, emits_of, sends_of, receives_of, first_with, owner_of, signals_from, channels_from, tables_for}
 use Rattle.sj_main.specs.definitions.Accepted.{port_names, Uses, KeepsOwners}
 use Rattle.sj_main.specs.ReadingOwners.{numbers_of, HasOwners, AreTablesOf}
 use Rattle.sj_main.proofs.ReadNames.{distinct_names}
@@ -78,28 +78,28 @@ channels_are : (f g : ℕ → ℕ) (k : ℕ) (names : List (List ℕ)) → map (
 channels_are f g k [] = refl
 channels_are f g k (n ∷ ns) = ap (λ l. n ∷ l) (channels_are f g (suc k) ns)
 
-signal_ports : (ports : List Port) → list_all is_name (port_names ports) ≡ true → list_all is_name (signal_names ports) ≡ true
+signal_ports : (ports : List Port) → list_all is_name (port_names ports) ≡ true → list_all is_name (port_signals ports) ≡ true
 signal_ports [] h = refl
-signal_ports (SignalPort n ∷ ports) h = let b = both (is_name n) (list_all is_name (port_names ports)) h in and_true (is_name n) (list_all is_name (signal_names ports)) b.0 (signal_ports ports b.1)
+signal_ports (SignalPort n ∷ ports) h = let b = both (is_name n) (list_all is_name (port_names ports)) h in and_true (is_name n) (list_all is_name (port_signals ports)) b.0 (signal_ports ports b.1)
 signal_ports (ChannelPort n ∷ ports) h = signal_ports ports (both (is_name n) (list_all is_name (port_names ports)) h).1
 
-channel_ports : (ports : List Port) → list_all is_name (port_names ports) ≡ true → list_all is_channel_name (channel_names ports) ≡ true
+channel_ports : (ports : List Port) → list_all is_name (port_names ports) ≡ true → list_all is_channel_name (port_channels ports) ≡ true
 channel_ports [] h = refl
 channel_ports (SignalPort n ∷ ports) h = channel_ports ports (both (is_name n) (list_all is_name (port_names ports)) h).1
 channel_ports (ChannelPort n ∷ ports) h =
     let b = both (is_name n) (list_all is_name (port_names ports)) h in
-    and_true (is_channel_name n) (list_all is_channel_name (channel_names ports)) (or_first (is_name n) (is_name (before_dot n) && is_place (after_dot n)) b.0) (channel_ports ports b.1)
+    and_true (is_channel_name n) (list_all is_channel_name (port_channels ports)) (or_first (is_name n) (is_name (before_dot n) && is_place (after_dot n)) b.0) (channel_ports ports b.1)
 
-names_hold : (ports : List Port) (ps : List Stmt) → list_all is_name (port_names ports) ≡ true → are_distinct (port_names ports) ≡ true → has_names (tables_for (interface_of ports) ps) ≡ true
+names_hold : (ports : List Port) (ps : List Stmt) → list_all is_name (port_names ports) ≡ true → are_distinct (port_names ports) ≡ true → has_names (tables_for (port_interface ports) ps) ≡ true
 names_hold ports ps n d =
-    let e = names_are (owner_of emits_of ps) 0 (signal_names ports) in
-    let g = channels_are (owner_of sends_of ps) (owner_of receives_of ps) 0 (channel_names ports) in
-    let t = tables_for (interface_of ports) ps in
+    let e = names_are (owner_of emits_of ps) 0 (port_signals ports) in
+    let g = channels_are (owner_of sends_of ps) (owner_of receives_of ps) 0 (port_channels ports) in
+    let t = tables_for (port_interface ports) ps in
     and_true (list_all is_name (interface_names t.signals)) (list_all is_channel_name (well.channel_names t) && are_distinct (interface_names t.signals ++ well.channel_names t))
     (ap (list_all is_name) e ∙ signal_ports ports n)
     (and_true (list_all is_channel_name (well.channel_names t)) (are_distinct (interface_names t.signals ++ well.channel_names t))
     (ap (list_all is_channel_name) g ∙ channel_ports ports n)
-    (ap (λ l. are_distinct (l ++ well.channel_names t)) e ∙ ap (λ l. are_distinct (signal_names ports ++ l)) g ∙ distinct_names ports d))
+    (ap (λ l. are_distinct (l ++ well.channel_names t)) e ∙ ap (λ l. are_distinct (port_signals ports ++ l)) g ∙ distinct_names ports d))
 
 -- limits
 
@@ -280,11 +280,11 @@ all_parts : (i : Interface) (ts : List Term) → AreBuilt i ts → list_all has_
 all_parts i [] b = refl
 all_parts i (t ∷ ts) b = and_true (has_parts t) (list_all has_parts ts) b.0.parts (all_parts i ts b.1)
 
-is_system : (ports : List Port) (ts : List Term) → list_all is_name (port_names ports) ≡ true → are_distinct (port_names ports) ≡ true → length (interface_of ports).channels ≤ most_channels → 1 ≤ length ts → length ts ≤ most_domains
-    → AreBuilt (interface_of ports) ts → KeepsOwners (interface_of ports) (map statement ts) → HasOwners role.Emitter (map statement ts) → HasOwners role.Sender (map statement ts) → HasOwners role.Receiver (map statement ts)
-    → is_well_formed (tables_for (interface_of ports) (map statement ts)) ts ≡ true
+is_system : (ports : List Port) (ts : List Term) → list_all is_name (port_names ports) ≡ true → are_distinct (port_names ports) ≡ true → length (port_interface ports).channels ≤ most_channels → 1 ≤ length ts → length ts ≤ most_domains
+    → AreBuilt (port_interface ports) ts → KeepsOwners (port_interface ports) (map statement ts) → HasOwners role.Emitter (map statement ts) → HasOwners role.Sender (map statement ts) → HasOwners role.Receiver (map statement ts)
+    → is_well_formed (tables_for (port_interface ports) (map statement ts)) ts ≡ true
 is_system ports ts n d c some few b k em se re =
-    let i = interface_of ports in
+    let i = port_interface ports in
     let ps = map statement ts in
     let t = tables_for i ps in
     let l : length ps ≡ length ts = length-map ts statement in
@@ -294,7 +294,7 @@ is_system ports ts n d c some few b k em se re =
     (and_true (list_all has_parts ts) _ (all_parts i ts b)
     (and_true (fit_statements t 0 (map statement ts)) _ (fits_from i ps [] ts refl b em se re) (once i ps ts b)))))
 
-pub well_formed : (i : Interface) (ports : List Port) (ts : List Term) (tables : Tables) → i ≡ interface_of ports → list_all is_name (port_names ports) ≡ true → are_distinct (port_names ports) ≡ true → length i.channels ≤ most_channels
+pub well_formed : (i : Interface) (ports : List Port) (ts : List Term) (tables : Tables) → i ≡ port_interface ports → list_all is_name (port_names ports) ≡ true → are_distinct (port_names ports) ≡ true → length i.channels ≤ most_channels
     → 1 ≤ length ts → length ts ≤ most_domains → AreBuilt i ts → AreTablesOf i (map statement ts) tables → is_well_formed tables ts ≡ true
 well_formed i ports ts tables e n d c some few b a =
     ap (λ t. is_well_formed t ts) (a.is ∙ ap (λ x. tables_for x (map statement ts)) e)

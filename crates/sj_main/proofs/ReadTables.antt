@@ -1,8 +1,8 @@
 -- The tables of domains that keep the rules on owners.
-use Rattle.std.proofs.Common.{◌≡◌, ℕ, zero, suc, ◌+◌, ◌<◌, ◌≤◌, Bool, true, false, nat_eq, nat_lt, cond, List, [], ◌∷◌, length, map, drop, get_or, Option, Some, None, ap, refl, sym, ◌∙◌, subst, arith, add-one}
-use Rattle.std.proofs.Math.Seq.{drop-cons}
+use Rattle.std.proofs.Common.{◌≡◌, ℕ, zero, suc, ◌+◌, ◌<◌, ◌≤◌, Bool, true, false, nat_eq, nat_lt, cond, List, [], ◌∷◌, length, map, drop, get_or, Option, Some, None, ap, refl, sym, ◌∙◌, subst, arith}
 use Rattle.std.proofs.lemmas.List.{length-map}
 use Rattle.std.specs.Prelude.{unwrap_or}
+use Rattle.std.specs.List.{count_by}
 use Rattle.std.proofs.lemmas.Bool.Decides.{nat_tests}
 use Rattle.java_values.specs.declared.kind.Kind.TheVariants.{Int}
 use Rattle.kernel_terms.specs.declared.term.Term.{Term}
@@ -19,13 +19,14 @@ use Rattle.kernel_terms.specs.Statements.{Stmt, statement}
 use Rattle.sj_main.specs.definitions.Programs.{Interface, emits_of, sends_of, receives_of, owner_of, signals_from, channels_from, tables_for}
 use Rattle.sj_main.specs.definitions.Accepted.{Uses, HasOne}
 use Rattle.sj_main.specs.ReadingOwners.{numbers_of, limit_of, AreOwners, IsShared, owner_in, count_of, AreFewEach, IsFull, IsPair, AreChannels, IsUnpaired, AreTablesOf, BreaksOwners}
+use Rattle.sj_main.proofs.RunWeights.{numbers_count}
 use Rattle.sj_main.proofs.ReadOwners.{uses_below, first_uses, stands_none}
 
 drop_nothing : {X : Type 0} (k : ℕ) → drop {A = X} k [] ≡ []
 drop_nothing zero = refl
 drop_nothing (suc k) = refl
 
-drop_end : {X : Type 0} (xs : List X) (n : ℕ) → length xs ≤ n → drop n xs ≡ []
+pub drop_end : {X : Type 0} (xs : List X) (n : ℕ) → length xs ≤ n → drop n xs ≡ []
 drop_end [] n h = drop_nothing n
 drop_end (x ∷ xs) zero h = absurd (omega arith)
 drop_end (x ∷ xs) (suc n) h = drop_end xs n (omega arith)
@@ -42,20 +43,6 @@ last_of : (a b : ℕ) → nat_lt a b ≡ false → a < b + 1 → b ≡ a
 last_of a b h l = grind (arith, nat_tests)
 
 -- counting
-
-count_first : (d : ℕ) (all : List SignalInfo) (i : ℕ) (s : SignalInfo) → i < length all → s ≡ get_or all i s → count_of d (drop i all) ≡ cond (nat_eq s.domain d) 1 0 + count_of d (drop (i + 1) all)
-count_first d all i s lt is = rw (add-one, drop-cons all i s lt) (ap (λ (x : SignalInfo). cond (nat_eq x.domain d) 1 0 + count_of d (drop (suc i) all)) (sym is))
-
-pub count_has : (d : ℕ) (all : List SignalInfo) (i n : ℕ) (s : SignalInfo) → i < length all → s ≡ get_or all i s → nat_eq s.domain d ≡ true → n + count_of d (drop i all) ≡ count_of d all → n + 1 + count_of d (drop (i + 1) all) ≡ count_of d all
-count_has d all i n s lt is h e = let a = count_first d all i s lt is ∙ ap (λ b. cond b 1 0 + count_of d (drop (i + 1) all)) h in omega arith
-
-pub count_has_not : (d : ℕ) (all : List SignalInfo) (i n : ℕ) (s : SignalInfo) → i < length all → s ≡ get_or all i s → nat_eq s.domain d ≡ false → n + count_of d (drop i all) ≡ count_of d all → n + count_of d (drop (i + 1) all) ≡ count_of d all
-count_has_not d all i n s lt is h e = let a = count_first d all i s lt is ∙ ap (λ b. cond b 1 0 + count_of d (drop (i + 1) all)) h in omega arith
-
-pub count_end : (d : ℕ) (all : List SignalInfo) (i n : ℕ) → length all ≤ i → n + count_of d (drop i all) ≡ count_of d all → n ≡ count_of d all
-count_end d all i n l e = let a = ap (count_of d) (drop_end all i l) in omega arith
-
-pub ruleset count_steps = (count_has, count_has_not, count_end)
 
 pub few_start : (signals : List SignalInfo) → AreFewEach signals 0
 few_start signals = record { few = λ d l. absurd (omega arith) }
@@ -92,9 +79,12 @@ count_cond : (b : Bool) (k m : ℕ) (r : List ℕ) → length r ≡ m → length
 count_cond true k m r h = omega arith
 count_cond false k m r h = omega arith
 
-count_is : (d k : ℕ) (ss : List SignalInfo) → length (numbers_where (λ (s : SignalInfo). nat_eq s.domain d) k ss) ≡ count_of d ss
+pub count_is : (d k : ℕ) (ss : List SignalInfo) → length (numbers_where (λ (s : SignalInfo). nat_eq s.domain d) k ss) ≡ count_of d ss
 count_is d k [] = refl
 count_is d k (s ∷ ss) = count_cond (nat_eq s.domain d) k (count_of d ss) (numbers_where (λ (x : SignalInfo). nat_eq x.domain d) (suc k) ss) (count_is d (suc k) ss)
+
+pub counted : (d : ℕ) (ss : List SignalInfo) → count_by (λ (s : SignalInfo). nat_eq s.domain d) ss ≡ count_of d ss
+counted d ss = sym (numbers_count (λ (s : SignalInfo). nat_eq s.domain d) 0 ss) ∙ count_is d 0 ss
 
 signals_same : (f g : ℕ → ℕ) (k : ℕ) (names : List (List ℕ)) → ((n : ℕ) → f n ≡ g n) → signals_from f k names ≡ signals_from g k names
 signals_same f g k [] h = refl

@@ -22,7 +22,7 @@ none_of_nil (b ∷ bs) h = cc
 no_next : (o : Option (Token × List ℕ)) (p : Token × List ℕ) → o ≡ None → o ≡ Some p → ⊥
 no_next o p a b = cc
 
-one_next : (o : Option (Token × List ℕ)) (t u : Token) (r s : List ℕ) → o ≡ Some (t, r) → o ≡ Some (u, s) → (t ≡ u) × (r ≡ s)
+pub one_next : (o : Option (Token × List ℕ)) (t u : Token) (r s : List ℕ) → o ≡ Some (t, r) → o ≡ Some (u, s) → (t ≡ u) × (r ≡ s)
 one_next o t u r s a b =
     let P : Type 0 = Token × List ℕ in
     let x : P = (t, r) in
@@ -103,7 +103,7 @@ reaches_none source rest done r e n = record { none = λ ts h. let b = r.back ts
     stop [] s = n s
     stop (u ∷ us) s = no_next _ _ e s.1
 
-rest_of : (x : Option Token) (p rest : List ℕ) (t : Token) → with_rest x p ≡ Some (t, rest) → p ≡ rest
+pub rest_of : (x : Option Token) (p rest : List ℕ) (t : Token) → with_rest x p ≡ Some (t, rest) → p ≡ rest
 rest_of None p rest t e = cc
 rest_of (Some u) p rest t e = (one_next (Some (u, p)) u t p rest refl e).1
 

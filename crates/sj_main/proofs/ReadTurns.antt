@@ -7,7 +7,7 @@ use Rattle.domain_core.specs.definitions.runs.Scheduled.{turns_of}
 use Rattle.sj_main.specs.declared.commands.Turns.{Turns}
 use Rattle.sj_main.specs.declared.commands.Turns.TheVariants.{Rounds, Each}
 use Rattle.sj_main.specs.definitions.Tokens.{digit_value, number_from}
-use Rattle.sj_main.specs.definitions.Commands.{most_turns, whole_number, turn_text, turns_text, AreDomains, AreTurns, IsEach, IsRounds, IsTurns, IsOrder}
+use Rattle.sj_main.specs.definitions.Commands.{most_turns, whole_number, turn_text, turns_text, AreDomains, AreTurns, IsEach, IsRoundCount, IsTurns, IsOrder}
 use Rattle.sj_main.proofs.Budgets.{turns_of-append}
 use Rattle.sj_main.specs.Words.{BeginsTwo, NoTwo, EndsTurn, BeginsTurn, NoTurn, NoList, IsLast, IsMore, HasList, NoFewTurns, IsTurnList, TurnsReach, CountedTo, NoEach, HasEach, NoRounds, NoTurns, HasTurns, AreFew}
 
@@ -367,7 +367,7 @@ pub ruleset each_steps = (each_none, each_list, no_each_list, has_each)
 same_digits : (word a b : List ℕ) → word ≡ codes "rr:" ++ a → word ≡ codes "rr:" ++ b → a ≡ b
 same_digits word a b g h = cc
 
-pub rounds_are : (word digits : List ℕ) (n : ℕ) → word ≡ codes "rr:" ++ digits → whole_number most_turns digits ≡ Some n → IsRounds word n
+pub rounds_are : (word digits : List ℕ) (n : ℕ) → word ≡ codes "rr:" ++ digits → whole_number most_turns digits ≡ Some n → IsRoundCount word n
 rounds_are word digits n h e = record { digits = digits; is = h; number = e }
 
 pub no_rounds : (word : List ℕ) → ((digits : List ℕ) → word ≡ codes "rr:" ++ digits → ⊥) → NoRounds word
@@ -387,7 +387,7 @@ turns_none word r e = record { none = none }
     none (Rounds n) h = r.none n h
     none (Each ts) h = e.none ts h
 
-pub turns_rounds : (word : List ℕ) (n : ℕ) → IsRounds word n → IsTurns word (Rounds n)
+pub turns_rounds : (word : List ℕ) (n : ℕ) → IsRoundCount word n → IsTurns word (Rounds n)
 turns_rounds word n h = h
 
 pub turns_each : (word turns : List ℕ) → IsEach word turns → IsTurns word (Each turns)

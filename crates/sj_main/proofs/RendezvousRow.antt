@@ -20,9 +20,9 @@ use Rattle.domain_core.proofs.lemmas.runs.Places.{put_apart}
 use Rattle.domain_core.proofs.lemmas.runs.WorkedRuns.{ticked, zeros, either, joined, no_join, one_join}
 use Rattle.sj_main.specs.declared.commands.Turns.TheVariants.{Each}
 use Rattle.sj_main.specs.definitions.Grammar.{Done, EmitThen, SendThen, ReceiveThen, SignalPort, ChannelPort, Program}
-use Rattle.sj_main.specs.definitions.Programs.{setup_of, tables_of_program, emits_of, sends_of, receives_of}
+use Rattle.sj_main.specs.definitions.Programs.{program_setup, tables_of_program, emits_of, sends_of, receives_of}
 use Rattle.sj_main.specs.definitions.Accepted.{Uses, Joins, IsSourceOf}
-use Rattle.sj_main.specs.definitions.Verdicts.{IsRunOf}
+use Rattle.sj_main.specs.definitions.Verdicts.{IsTextOfRun}
 use Rattle.sj_main.proofs.RowLemmas.{zero_text, one_text, two_text, three_text, all_none, all_more, Makes, turn_joined, turn_taken, IsShownBy, told_run}
 
 abbrev source : List ℕ
@@ -36,7 +36,7 @@ program = record {
 }
 
 abbrev setup : Setup
-setup = setup_of program no_inputs
+setup = program_setup program no_inputs
 
 abbrev domains : List Stmt
 domains = Seq (Send 0 (Literal Int (pos 5))) (Emit 0 None) ∷ Seq (Receive 0) (Emit 1 None) ∷ []
@@ -218,7 +218,7 @@ shown = record {
 five_text : decimal 5 ≡ 53 ∷ []
 five_text = decimal_digit 5 (omega arith)
 
-pub one_rendezvous : IsRunOf source (Each (0 ∷ 1 ∷ 0 ∷ 1 ∷ [])) (codes "domain 0 ticks 2 ended\n1 @1\n2 @3 D\ndomain 1 ticks 2 ended\n1 @1\n2 @3 B\nchannel C 1\n1 5 1 1 @2\n")
+pub one_rendezvous : IsTextOfRun source (Each (0 ∷ 1 ∷ 0 ∷ 1 ∷ [])) (codes "domain 0 ticks 2 ended\n1 @1\n2 @3 D\ndomain 1 ticks 2 ended\n1 @1\n2 @3 B\nchannel C 1\n1 5 1 1 @2\n")
 one_rendezvous =
     told_run source (Each (0 ∷ 1 ∷ 0 ∷ 1 ∷ [])) (codes "domain 0 ticks 2 ended\n1 @1\n2 @3 D\ndomain 1 ticks 2 ended\n1 @1\n2 @3 B\nchannel C 1\n1 5 1 1 @2\n") program the_run s5 is_source
     (record {

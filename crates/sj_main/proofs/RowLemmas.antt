@@ -23,10 +23,10 @@ use Rattle.domain_core.proofs.lemmas.runs.WorkedRuns.{env_in, ticked, takes_turn
 use Rattle.sj_main.specs.declared.commands.Turns.{Turns}
 use Rattle.sj_main.specs.declared.commands.Turns.TheVariants.{Each}
 use Rattle.sj_main.specs.definitions.Grammar.{Block, Done, EmptyThen, PauseThen, EmitThen, WhileThen, SendThen, ReceiveThen, SignalPort, Program, blocks_of}
-use Rattle.sj_main.specs.definitions.Programs.{Interface, interface_of, parts_of, block_statement, tables_of_program, setup_of, emits_of}
+use Rattle.sj_main.specs.definitions.Programs.{Interface, port_interface, parts_of, block_statement, tables_of_program, program_setup, emits_of}
 use Rattle.sj_main.specs.definitions.Accepted.{Uses, IsSourceOf}
 use Rattle.sj_main.specs.definitions.RunWeight.{turns_of_program}
-use Rattle.sj_main.specs.definitions.Verdicts.{CanRun, IsRunOf}
+use Rattle.sj_main.specs.definitions.Verdicts.{CanRun, IsTextOfRun}
 
 -- digits
 
@@ -91,8 +91,8 @@ waitless_domains i [] d = record { sends = λ c v w. w; receives = λ c w. w }
 waitless_domains i (b ∷ bs) zero = waitless_sequence (parts_of i b) (waitless_parts i b)
 waitless_domains i (b ∷ bs) (suc d) = waitless_domains i bs d
 
-pub fresh : (p : Program) → IsFresh (setup_of p no_inputs)
-fresh p = record { sends = λ d c v w. (waitless_domains (interface_of p.ports) (blocks_of p) d).sends c v w; receives = λ d c w. (waitless_domains (interface_of p.ports) (blocks_of p) d).receives c w }
+pub fresh : (p : Program) → IsFresh (program_setup p no_inputs)
+fresh p = record { sends = λ d c v w. (waitless_domains (port_interface p.ports) (blocks_of p) d).sends c v w; receives = λ d c w. (waitless_domains (port_interface p.ports) (blocks_of p) d).receives c w }
 
 -- turns that are taken
 
@@ -126,10 +126,10 @@ pub record IsShownBy (p : Setup) (run : RunState) (turns : List ℕ) (end : Syst
   pub marks : (d : ℕ) → d < domain_count p → (log_of run d).mark ≡ (end.domain d).mark
 
 -- the run of a source is told by its turns
-pub told_run : (bytes : List ℕ) (turns : Turns) (text : List ℕ) (p : Program) (run : RunState) (end : SystemState) → IsSourceOf bytes p → CanRun p turns → IsSystem (setup_of p no_inputs) → Fits (setup_of p no_inputs) run
-    → IsShownBy (setup_of p no_inputs) run (turns_of_program p turns) end → text ≡ run_text (tables_of_program p) run → IsRunOf bytes turns text
+pub told_run : (bytes : List ℕ) (turns : Turns) (text : List ℕ) (p : Program) (run : RunState) (end : SystemState) → IsSourceOf bytes p → CanRun p turns → IsSystem (program_setup p no_inputs) → Fits (program_setup p no_inputs) run
+    → IsShownBy (program_setup p no_inputs) run (turns_of_program p turns) end → text ≡ run_text (tables_of_program p) run → IsTextOfRun bytes turns text
 told_run bytes turns text p run end source can system fits shown is =
-    let setup = setup_of p no_inputs in
+    let setup = program_setup p no_inputs in
     let all = turns_of_program p turns in
     let scheduled = scheduled_by_step setup run all shown.moves end system (fresh p) fits shown.turned shown.tells shown.stamps shown.marks in
     record {
@@ -199,7 +199,7 @@ abbrev ends_at_once : Tick
 ends_at_once = ends_with [] zeros
 
 abbrev empty_end : SystemState
-empty_end = ticked (setup_of empty no_inputs) 0 (start (setup_of empty no_inputs)) ends_at_once
+empty_end = ticked (program_setup empty no_inputs) 0 (start (program_setup empty no_inputs)) ends_at_once
 
 abbrev empty_run : RunState
 empty_run = record { logs = record { entries = record { stamp = 1; statuses = [] } ∷ []; mark = Ended } ∷ []; histories = [] }
@@ -212,14 +212,14 @@ empty_marks : (d : ℕ) → d < 1 → (log_of empty_run d).mark ≡ (empty_end.d
 empty_marks zero h = refl
 empty_marks (suc d) h = absurd (omega arith)
 
-pub nothing_in_one_turn : IsRunOf empty_source (Each (0 ∷ [])) (codes "domain 0 ticks 1 ended\n1 @1\n")
+pub nothing_in_one_turn : IsTextOfRun empty_source (Each (0 ∷ [])) (codes "domain 0 ticks 1 ended\n1 @1\n")
 nothing_in_one_turn = told_run empty_source (Each (0 ∷ [])) (codes "domain 0 ticks 1 ended\n1 @1\n") empty empty_run empty_end empty_is_source
     (record { fit = all_more 1 0 [] (omega arith) (all_none 1); weight = omega arith })
-    (no_channels (setup_of empty no_inputs) refl)
+    (no_channels (program_setup empty no_inputs) refl)
     (record { logs = refl; histories = refl })
     (record {
       moves = MakesTick 0 [] ∷ [];
-      turned = turn_taken (setup_of empty no_inputs) 0 (start (setup_of empty no_inputs)) ends_at_once [] [] empty_end (record { within = omega arith; goes_on = refl; ticks = refl; code = refl }) (refl, refl) (refl, refl);
+      turned = turn_taken (program_setup empty no_inputs) 0 (start (program_setup empty no_inputs)) ends_at_once [] [] empty_end (record { within = omega arith; goes_on = refl; ticks = refl; code = refl }) (refl, refl) (refl, refl);
       tells = (omega arith, refl, (empty_ticks, λ c. refl));
       stamps = (refl, tt);
       marks = empty_marks;
@@ -233,14 +233,14 @@ no_ticks : (d : ℕ) → 0 ≡ tick_count still_run d
 no_ticks zero = refl
 no_ticks (suc d) = refl
 
-still_marks : (d : ℕ) → d < 1 → (log_of still_run d).mark ≡ ((start (setup_of empty no_inputs)).domain d).mark
+still_marks : (d : ℕ) → d < 1 → (log_of still_run d).mark ≡ ((start (program_setup empty no_inputs)).domain d).mark
 still_marks zero h = refl
 still_marks (suc d) h = absurd (omega arith)
 
-pub nothing_in_no_turn : IsRunOf empty_source (Each []) (codes "domain 0 ticks 0 paused\n")
-nothing_in_no_turn = told_run empty_source (Each []) (codes "domain 0 ticks 0 paused\n") empty still_run (start (setup_of empty no_inputs)) empty_is_source
+pub nothing_in_no_turn : IsTextOfRun empty_source (Each []) (codes "domain 0 ticks 0 paused\n")
+nothing_in_no_turn = told_run empty_source (Each []) (codes "domain 0 ticks 0 paused\n") empty still_run (start (program_setup empty no_inputs)) empty_is_source
     (record { fit = all_none 1; weight = omega arith })
-    (no_channels (setup_of empty no_inputs) refl)
+    (no_channels (program_setup empty no_inputs) refl)
     (record { logs = refl; histories = refl })
     (record { moves = []; turned = (refl, refl); tells = (no_ticks, λ c. refl); stamps = tt; marks = still_marks })
     (rw zero_text refl)
@@ -287,10 +287,10 @@ abbrev first_blink : Tick
 first_blink = record (as_whole 1 (Seq Nothing (Emit 0 None)) pausing) { emits = of_signal 0 ∷ [] }
 
 abbrev blink1 : SystemState
-blink1 = ticked (setup_of blink no_inputs) 0 (start (setup_of blink no_inputs)) first_blink
+blink1 = ticked (program_setup blink no_inputs) 0 (start (program_setup blink no_inputs)) first_blink
 
 abbrev blink2 : SystemState
-blink2 = ticked (setup_of blink no_inputs) 0 blink1 (emitting 0)
+blink2 = ticked (program_setup blink no_inputs) 0 blink1 (emitting 0)
 
 abbrev blink_run : RunState
 blink_run = record {
@@ -306,9 +306,9 @@ blink_marks : (d : ℕ) → d < 1 → (log_of blink_run d).mark ≡ (blink2.doma
 blink_marks zero h = refl
 blink_marks (suc d) h = absurd (omega arith)
 
-pub blink_in_three_turns : IsRunOf blink_source (Each (0 ∷ 0 ∷ 0 ∷ [])) (codes "domain 0 ticks 2 ended\n1 @1 A\n2 @2 A\n")
+pub blink_in_three_turns : IsTextOfRun blink_source (Each (0 ∷ 0 ∷ 0 ∷ [])) (codes "domain 0 ticks 2 ended\n1 @1 A\n2 @2 A\n")
 blink_in_three_turns =
-    let p = setup_of blink no_inputs in
+    let p = program_setup blink no_inputs in
     told_run blink_source (Each (0 ∷ 0 ∷ 0 ∷ [])) (codes "domain 0 ticks 2 ended\n1 @1 A\n2 @2 A\n") blink blink_run blink2 blink_is_source
     (record { fit = all_more 1 0 (0 ∷ 0 ∷ []) (omega arith) (all_more 1 0 (0 ∷ []) (omega arith) (all_more 1 0 [] (omega arith) (all_none 1))); weight = omega arith })
     (no_channels p refl)
@@ -367,13 +367,13 @@ abbrev loop_restarts : Tick
 loop_restarts = record loop_starts { emits = of_signal 1 ∷ of_signal 0 ∷ [] }
 
 abbrev loop1 : SystemState
-loop1 = ticked (setup_of looping no_inputs) 0 (start (setup_of looping no_inputs)) loop_starts
+loop1 = ticked (program_setup looping no_inputs) 0 (start (program_setup looping no_inputs)) loop_starts
 
 abbrev loop2 : SystemState
-loop2 = ticked (setup_of looping no_inputs) 0 loop1 loop_restarts
+loop2 = ticked (program_setup looping no_inputs) 0 loop1 loop_restarts
 
 abbrev loop3 : SystemState
-loop3 = ticked (setup_of looping no_inputs) 0 loop2 loop_restarts
+loop3 = ticked (program_setup looping no_inputs) 0 loop2 loop_restarts
 
 abbrev both : List (Option ℤ)
 both = Some (pos 0) ∷ Some (pos 0) ∷ []
@@ -395,7 +395,7 @@ loop_marks : (d : ℕ) → d < 1 → (log_of loop_run d).mark ≡ (loop3.domain 
 loop_marks zero h = refl
 loop_marks (suc d) h = absurd (omega arith)
 
-makes_start : Makes (setup_of looping no_inputs) 0 (start (setup_of looping no_inputs)) loop_starts
+makes_start : Makes (program_setup looping no_inputs) 0 (start (program_setup looping no_inputs)) loop_starts
 makes_start = record {
   within = omega arith;
   goes_on = refl;
@@ -403,7 +403,7 @@ makes_start = record {
   code = refl;
 }
 
-makes_second : Makes (setup_of looping no_inputs) 0 loop1 loop_restarts
+makes_second : Makes (program_setup looping no_inputs) 0 loop1 loop_restarts
 makes_second = record {
   within = omega arith;
   goes_on = refl;
@@ -415,7 +415,7 @@ makes_second = record {
   code = refl;
 }
 
-makes_third : Makes (setup_of looping no_inputs) 0 loop2 loop_restarts
+makes_third : Makes (program_setup looping no_inputs) 0 loop2 loop_restarts
 makes_third = record {
   within = omega arith;
   goes_on = refl;
@@ -427,9 +427,9 @@ makes_third = record {
   code = refl;
 }
 
-pub loop_in_three_turns : IsRunOf loop_source (Each (0 ∷ 0 ∷ 0 ∷ [])) (codes "domain 0 ticks 3 paused\n1 @1 A\n2 @2 A B\n3 @3 A B\n")
+pub loop_in_three_turns : IsTextOfRun loop_source (Each (0 ∷ 0 ∷ 0 ∷ [])) (codes "domain 0 ticks 3 paused\n1 @1 A\n2 @2 A B\n3 @3 A B\n")
 loop_in_three_turns =
-    let p = setup_of looping no_inputs in
+    let p = program_setup looping no_inputs in
     told_run loop_source (Each (0 ∷ 0 ∷ 0 ∷ [])) (codes "domain 0 ticks 3 paused\n1 @1 A\n2 @2 A B\n3 @3 A B\n") looping loop_run loop3 loop_is_source
     (record { fit = all_more 1 0 (0 ∷ 0 ∷ []) (omega arith) (all_more 1 0 (0 ∷ []) (omega arith) (all_more 1 0 [] (omega arith) (all_none 1))); weight = omega arith })
     (no_channels p refl)

@@ -1,6 +1,6 @@
 -- Four words.
 use Rattle.std.proofs.Common.{◌≡◌, ℕ, Bool, true, false, not, List, [], ◌∷◌, length, get_or, arith, refl, sym, ◌∙◌, subst}
-use Rattle.std.specs.Prelude.{string_bytes, codes, Result, Ok, Err, OnErr}
+use Rattle.std.specs.Prelude.{string_bytes, codes}
 use Rattle.std.specs.declared.alloc.Global.{Global}
 use Rattle.std.specs.declared.string.String.{String}
 use Rattle.std.specs.Str.{bytes_eq}
@@ -38,9 +38,5 @@ no_order_turns words file word w n = λ f turns o. n.none turns (subst (λ x. Is
 
 pub command_read : (words : List (List ℕ)) (file word : List ℕ) → AreOrderWords words file word → HasTurns word → IsCommand words
 command_read words file word w h = record { file = file; turns = h.turns; command = order_read words file word h.turns w h.are }
-
-pub on_error : {X E P : Type 0} (r : Result X E) → P → OnErr r P
-on_error (Ok x) p = tt
-on_error (Err e) p = p
 
 pub ruleset word_steps = (order_read, no_order, no_order_turns, command_read)

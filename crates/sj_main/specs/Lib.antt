@@ -3,6 +3,7 @@ pub mod BuiltTerms
 pub mod Reading
 pub mod ReadingTokens
 pub mod ReadingBlocks
+pub mod NamedNumbers
 pub mod ReadingNames
 pub mod ReadingPrograms
 pub mod ReadingOwners

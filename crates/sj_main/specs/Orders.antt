@@ -2,6 +2,7 @@
 use Rattle.std.specs.Prelude.{◌≡◌, ℕ, ◌<◌, ◌≤◌, List, length, Option, IfSome}
 use Rattle.kernel_terms.specs.declared.system.System.{System}
 use Rattle.kernel_terms.specs.Systems.{tables_of, domains_of}
+use Rattle.sj_io.specs.Causes.{Rose}
 use Rattle.sj_io.specs.Sinks.{TakesMore, TakesFront}
 use Rattle.tick_log.specs.definitions.Runs.{RunState}
 use Rattle.tick_log.specs.definitions.Holding.{run_state}
@@ -14,10 +15,11 @@ use Rattle.sj_main.specs.declared.order.Made.{Made}
 use Rattle.sj_main.specs.declared.order.OrderError.{OrderError}
 use Rattle.sj_main.specs.declared.order.OrderError.TheVariants.{Fault, Size, NotBuiltYet, DomainsDoNotFit, OverWeight, NoMemory}
 use Rattle.sj_main.specs.definitions.Grammar.{Program}
-use Rattle.sj_main.specs.definitions.Programs.{tables_of_program, setup_of}
+use Rattle.sj_main.specs.definitions.Programs.{tables_of_program, program_setup}
 use Rattle.sj_main.specs.definitions.Accepted.{most_source_bytes, IsSourceOf, IsAccepted}
 use Rattle.sj_main.specs.definitions.Commands.{turns_for, FitDomains, budgets_for}
 use Rattle.sj_main.specs.definitions.RunWeight.{most_run_weight, run_weight, turns_of_program}
+use Rattle.sj_main.specs.definitions.Answers.{CountsShow}
 use Rattle.sj_main.specs.definitions.Verdicts.{CanRun, IsMisfit, IsOverweight, Outcome, IsOrderAnswer, overweight_line}
 
 -- the system and the run are those of the bytes and the turns
@@ -27,8 +29,8 @@ pub record IsMadeFrom (bytes : List ℕ) (turns : Turns) (made : Made) : Type 0 
   pub can : CanRun program turns
   pub tables : tables_of made.system ≡ tables_of_program program
   pub last : SystemState
-  pub scheduled : IsScheduledRun (setup_of program no_inputs) (run_state made.run) (turns_of_program program turns) last
-  pub whole : IsWholeRun (setup_of program no_inputs) (run_state made.run) (turns_of_program program turns)
+  pub scheduled : IsScheduledRun (program_setup program no_inputs) (run_state made.run) (turns_of_program program turns) last
+  pub whole : IsWholeRun (program_setup program no_inputs) (run_state made.run) (turns_of_program program turns)
 
 -- the turns fit the system's domains, their run isn't too heavy, and this is it
 pub record RunsTurns (system : System) (turns : Turns) (run : RunState) : Type 0 where
@@ -66,9 +68,11 @@ pub record TellsWeight (told : Option (List ℕ)) (turns : Turns) (old new : Opt
   pub is : IfSome told (λ bytes. IsOverweight bytes turns weight)
   pub takes : TakesMore old new (overweight_line weight)
 
--- the sink took a front of the text that some answer to the order of these bytes has
-pub record BeginsOrder (told : Option (List ℕ)) (turns : Turns) (old new : Option (List ℕ)) : Type 0 where
+-- the sink took a front of the text that some answer to the order of these bytes has, and the files' counts
+-- fit that answer
+pub record BeginsOrder (told : Option (List ℕ)) (turns : Turns) (file : List ℕ) (faults faults' : List ℕ → ℕ) (old new : Option (List ℕ)) : Type 0 where
   pub outcome : Outcome
   pub text : List ℕ
   pub is : IsOrderAnswer told turns outcome text
+  pub counts : CountsShow (Rose (faults file) (faults' file)) faults faults' outcome
   pub takes : TakesFront old new text

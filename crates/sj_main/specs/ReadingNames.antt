@@ -1,7 +1,8 @@
 -- What the names of the ports are.
-use Rattle.std.specs.Prelude.{◌≡◌, ℕ, ◌≤◌, ◌<◌, Bool, true, false, ◌||◌, List, [], ◌∷◌, ◌++◌, length, map}
+use Rattle.std.specs.Prelude.{◌≡◌, ℕ, ◌*◌, ◌≤◌, ◌<◌, Bool, true, false, ◌||◌, List, [], ◌∷◌, ◌++◌, length, map}
 use Rattle.std.specs.List.{list_any, position_or_len}
 use Rattle.std.specs.Str.{bytes_eq}
+use Rattle.kernel_terms.specs.Limits.{most_domains, most_signals, most_channels}
 use Rattle.sj_main.specs.declared.reader.names.NameSet.{NameSet}
 use Rattle.sj_main.specs.declared.reader.names.Names.{Names}
 use Rattle.sj_main.specs.declared.reader.names.PortKind.{PortKind}
@@ -10,18 +11,15 @@ use Rattle.sj_main.specs.definitions.Grammar.{Port, SignalPort, ChannelPort}
 use Rattle.sj_main.specs.definitions.Programs.{Interface}
 
 abbrev pub set_names : NameSet → List (List ℕ)
-set_names names = map (λ name. name.items) names.set.keys
+set_names names = map (λ name. name.now) names.names.items
 
 abbrev pub names_of : Names → Interface
 names_of names = record { signals = set_names names.signals; channels = set_names names.channels }
 
--- they are no more than the bytes of a source
-pub record AreFew (names : List (List ℕ)) : Type 0 where
-  pub few : length names ≤ 1048576
-
-pub record IsSmall (i : Interface) : Type 0 where
-  pub signals : AreFew i.signals
-  pub channels : AreFew i.channels
+-- a program may have so many ports, in as many domains as it may have
+pub record IsWithinLimits (i : Interface) : Type 0 where
+  pub signals : length i.signals ≤ most_domains * most_signals
+  pub channels : length i.channels ≤ most_channels
 
 -- the name is one of them, and this is its place
 pub record IsPlace (names : List (List ℕ)) (name : List ℕ) (place : ℕ) : Type 0 where

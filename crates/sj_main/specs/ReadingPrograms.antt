@@ -1,5 +1,5 @@
 -- What the steps of the reading of ports and programs answer.
-use Rattle.std.specs.Prelude.{◌≡◌, ℕ, ◌+◌, ◌≤◌, true, List, [], ◌∷◌, ◌++◌, length, map}
+use Rattle.std.specs.Prelude.{◌≡◌, ℕ, ◌≤◌, true, List, [], ◌∷◌, ◌++◌, length, map}
 use Rattle.std.specs.List.{list_all}
 use Rattle.java_values.specs.Names.{is_name, are_distinct}
 use Rattle.kernel_terms.specs.declared.term.Term.{Term}
@@ -13,7 +13,8 @@ use Rattle.sj_main.specs.declared.token.Token.TheVariants.{Reserved, Sign}
 use Rattle.sj_main.specs.declared.token.Word.TheVariants as word
 use Rattle.sj_main.specs.declared.token.Mark.TheVariants as mark
 use Rattle.sj_main.specs.definitions.Grammar.{Block, Port, SignalPort, ChannelPort, Program, port_tokens, ports_tokens, domain_tokens, others_tokens, program_tokens}
-use Rattle.sj_main.specs.definitions.Programs.{Interface, interface_of, block_statement, domain_statements, tables_of_program}
+use Rattle.sj_main.specs.definitions.Programs.{Interface, port_interface, block_statement, domain_statements, tables_of_program}
+use Rattle.sj_main.specs.ReadingNames.{IsWithinLimits}
 use Rattle.sj_main.specs.definitions.Accepted.{port_names, KeepsBlock, KeepBlocks, KeepsPorts}
 
 pub record StartsPort (start : List Token) (port : Port) (rest : List Token) : Type 0 where
@@ -35,21 +36,21 @@ pub record ArePorts (start : List Token) (ports : List Port) (after : List Token
 -- the ports from the start to the front have this interface
 pub record PortsReach (start : List Token) (i : Interface) (front : List Token) : Type 0 where
   pub ports : List Port
-  pub interface : i ≡ interface_of ports
+  pub interface : i ≡ port_interface ports
   pub there : (more : List Port) (after : List Token) → ArePorts front more after → ArePorts start (ports ++ more) after
   pub back : (all : List Port) (after : List Token) → ArePorts start all after → (more : List Port) × (all ≡ ports ++ more) × ArePorts front more after
   pub distinct : are_distinct (port_names ports) ≡ true
-  pub within : length i.signals + length i.channels + length front ≤ length start
+  pub limits : IsWithinLimits i
 
 pub record PortsRead (start : List Token) (i : Interface) (after : List Token) : Type 0 where
   pub ports : List Port
-  pub interface : i ≡ interface_of ports
+  pub interface : i ≡ port_interface ports
   pub is : ArePorts start ports after
   pub distinct : are_distinct (port_names ports) ≡ true
-  pub within : length i.signals + length i.channels + length after ≤ length start
+  pub limits : IsWithinLimits i
 
 pub record NoPorts (start : List Token) : Type 0 where
-  pub none : (ports : List Port) (after : List Token) → ArePorts start ports after → are_distinct (port_names ports) ≡ true → ⊥
+  pub none : (ports : List Port) (after : List Token) → ArePorts start ports after → are_distinct (port_names ports) ≡ true → IsWithinLimits (port_interface ports) → ⊥
 
 -- the tokens before the ports
 pub record StartsProgram (start ports : List Token) : Type 0 where
@@ -115,7 +116,7 @@ pub record IsReadFrom (tokens : List Token) (system : System) : Type 0 where
   pub rules : KeepsPorts program
   pub tables : tables_of system ≡ tables_of_program program
   pub domains : map statement (domains_of system) ≡ domain_statements program
-  pub built : AreBuilt (interface_of program.ports) (domains_of system)
+  pub built : AreBuilt (port_interface program.ports) (domains_of system)
 
 pub record NoProgram (tokens : List Token) : Type 0 where
   pub none : (p : Program) → tokens ≡ program_tokens p → KeepsPorts p → ⊥

@@ -12,6 +12,16 @@ use Rattle.java_values.specs.Names.{is_word_byte}
 abbrev pub tokens_of : List Placed → List Token
 tokens_of placed = map (λ p. p.token) placed
 
+-- no white space stands at the place, and from there on the bytes spell these tokens
+pub record StandsAt (source : List ℕ) (place : ℕ) (tokens : List Token) : Type 0 where
+  pub bare : skip_white (drop place source) ≡ drop place source
+  pub spells : Spells (drop place source) tokens
+
+-- each token stands at its place, and the later ones after it
+abbrev pub ArePlaced : List ℕ → List Placed → Type 0
+ArePlaced source [] = Unit {0}
+ArePlaced source (p ∷ ps) = StandsAt source p.at (p.token ∷ tokens_of ps) × ArePlaced source ps
+
 -- where the first token begins, or 0 where there is none
 abbrev pub offset_of : List Placed → ℕ
 offset_of [] = 0
@@ -51,3 +61,22 @@ pub record Lexed (source : List ℕ) (done : List Token) (front : List ℕ) : Ty
 
 pub record SpellsNothing (source : List ℕ) : Type 0 where
   pub none : (tokens : List Token) → Spells source tokens → ⊥
+
+-- the part is what is left of the whole after some first bytes
+pub record IsSuffix (whole part : List ℕ) : Type 0 where
+  pub skipped : ℕ
+  pub is : part ≡ drop skipped whole
+
+-- a token stands at its place, with the tokens so far and any that the front spells after it
+pub record StandsSoFar (source : List ℕ) (p : Placed) (later : List Placed) (front : List ℕ) : Type 0 where
+  pub bare : skip_white (drop p.at source) ≡ drop p.at source
+  pub there : (more : List Token) → Spells front more → Spells (drop p.at source) (p.token ∷ (tokens_of later ++ more))
+
+abbrev pub StandSoFar : List ℕ → List Placed → List ℕ → Type 0
+StandSoFar source [] front = Unit {0}
+StandSoFar source (p ∷ ps) front = StandsSoFar source p ps front × StandSoFar source ps front
+
+pub record PlacedTo (source : List ℕ) (placed : List Placed) (front : List ℕ) : Type 0 where
+  pub suffix : IsSuffix source front
+  pub bare : skip_white front ≡ front
+  pub stand : StandSoFar source placed front

@@ -3,7 +3,7 @@ use Rattle.std.specs.Prelude.{◌≡◌, ◌⊎◌, ℕ, ◌+◌, ◌<◌, ◌�
 use Rattle.domain_core.specs.definitions.runs.Scheduled.{turns_of}
 use Rattle.sj_main.specs.declared.commands.Turns.{Turns}
 use Rattle.sj_main.specs.declared.commands.Turns.TheVariants.{Rounds, Each}
-use Rattle.sj_main.specs.definitions.Commands.{most_turns, turn_text, turns_text, AreDomains, IsEach, IsRounds, IsTurns}
+use Rattle.sj_main.specs.definitions.Commands.{most_turns, turn_text, turns_text, AreDomains, IsEach, IsRoundCount, IsTurns}
 
 -- the bytes begin with the number of a domain from 10 to 15
 pub record BeginsTwo (word : List ℕ) (domain : ℕ) (rest : List ℕ) : Type 0 where
@@ -85,7 +85,7 @@ pub record HasEach (word : List ℕ) : Type 0 where
   pub are : IsEach word turns
 
 pub record NoRounds (word : List ℕ) : Type 0 where
-  pub none : (rounds : ℕ) → IsRounds word rounds → ⊥
+  pub none : (rounds : ℕ) → IsRoundCount word rounds → ⊥
 
 pub record NoTurns (word : List ℕ) : Type 0 where
   pub none : (turns : Turns) → IsTurns word turns → ⊥

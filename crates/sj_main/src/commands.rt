@@ -5,7 +5,7 @@ mod tests;
 
 ghost use Rattle.std.specs.Prelude.{◌≡◌, ◌≢◌, ◌∷◌, ◌++◌, ◌+◌, ◌<◌, List, ℕ, IfOk, OnErr, MatchBool, MatchOption, codes};
 ghost use Rattle.sj_main.specs.Words.{BeginsTwo, NoTwo, BeginsTurn, NoTurn, NoList, IsLast, IsMore, HasList, NoFewTurns, IsTurnList, NoEach, HasEach, NoRounds, NoTurns, HasTurns, AreOrderWords, NoOrderWords};
-ghost use Rattle.sj_main.specs.definitions.Commands.{most_turns, whole_number, IsEach, IsRounds, IsTurns, IsOrder, IsNoCommand, word_list, IsCommand};
+ghost use Rattle.sj_main.specs.definitions.Commands.{most_turns, whole_number, IsEach, IsRoundCount, IsTurns, IsOrder, IsNoCommand, word_list, IsCommand};
 
 use crate::reader::numbers::number_in;
 use java_values::NoMemory;
@@ -198,7 +198,7 @@ fn after_rounds(word: &[u8]) -> Option<&[u8]>
 /// Rounds of all domains.
 #[tactic(auto, using(crate::proofs::ReadTurns::round_steps))]
 fn read_rounds(word: &[u8]) -> Option<u32>
-    ensures { MatchOption result (NoRounds word.now) (λ rounds. IsRounds word.now rounds) }
+    ensures { MatchOption result (NoRounds word.now) (λ rounds. IsRoundCount word.now rounds) }
 {
     let digits = after_rounds(word)?;
     whole_number(digits)

@@ -14,7 +14,7 @@ mod tests;
 mod token;
 mod turns;
 
-use serve::{answer, serve_plain};
+use serve::serve_plain;
 use sj_io::{HostFiles, HostName, HostSink};
 use std::alloc::{AllocError, Global};
 use std::process::ExitCode;
@@ -46,7 +46,7 @@ fn main(rt: HostRuntime) -> ExitCode {
     };
     let mut out = HostSink::new(&rt);
     let Ok(names) = host_names(rt.alloc(), &words) else {
-        return ExitCode::from(answer(&mut out, b"no memory\n", 5));
+        return ExitCode::from(5);
     };
     let mut files = HostFiles::new(&rt, names);
     ExitCode::from(serve_plain(rt.alloc(), &words, &mut files, &mut out))

@@ -3,6 +3,7 @@
 ghost use Rattle.std.specs.Prelude.{◌≡◌, ◌<◌, ℕ, length, IfErr, IfOk, IfSome, IsErrOf};
 ghost use Rattle.kernel_terms.specs.Systems.{domains_of};
 ghost use Rattle.sj_io.specs.Causes.{Rose};
+ghost use Rattle.sj_io.specs.Files.{CountsStay};
 ghost use Rattle.tick_log.specs.definitions.Holding.{run_state, HoldsRun};
 ghost use Rattle.domain_core.specs.definitions.step.Compiling.{CanCompile};
 ghost use Rattle.gals_core.specs.definitions.OrderPlans.{AreDomainsOf};
@@ -11,7 +12,7 @@ ghost use Rattle.sj_main.specs.Orders.{IsMadeFrom, IsWhy, RunsTurns, IsWhyNoRun}
 
 use crate::accept::accept;
 use crate::commands::Turns;
-use crate::turns::{budgets, fit, run_weight, schedule};
+use crate::turns::{budgets, fit, list_rounds, run_weight};
 use domain_core::{CompileError, Domain, compile};
 use gals_core::{OrderPlan, run_order};
 use java_values::NoMemory;
@@ -112,8 +113,13 @@ fn run_of(alloc: Global, system: &System, turns: &Turns) -> Result<Run, OrderErr
     }
     let domains = compile_all(alloc, system)?;
     let plan = OrderPlan::open(alloc, system, domains, &budgets)?;
-    let list = schedule(alloc, turns, count)?;
-    Ok(run_order(system, plan, &list))
+    match turns {
+        Turns::Each(each) => Ok(run_order(system, plan, each.as_slice())),
+        Turns::Rounds(rounds) => {
+            let list = list_rounds(alloc, *rounds, count)?;
+            Ok(run_order(system, plan, &list))
+        }
+    }
 }
 
 /// Reads the file's source, and makes the run of the turns of its program.
@@ -127,6 +133,7 @@ pub fn order<F: Files>(
     ensures made { IfOk result (λ made. IfSome (F.told files.old file.now) (λ bytes. IsMadeFrom bytes turns.now made)) }
     ensures holds { IfOk result (λ made. HoldsRun made.system made.run) }
     ensures fault { IsErrOf result OrderError.Fault → Rose (F.faults files.old file.now) (F.faults files.new file.now) }
+    ensures calm { (IsErrOf result OrderError.Fault → ⊥) → CountsStay (F.faults files.old) (F.faults files.new) }
     ensures why { IfErr result (λ e. IfSome (F.told files.old file.now) (λ bytes. IsWhy bytes turns.now e)) }
 {
     let bytes = match read_all(alloc, files, file, MOST_SOURCE_BYTES) {

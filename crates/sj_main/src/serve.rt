@@ -2,6 +2,7 @@
 
 ghost use Rattle.std.specs.Prelude.{◌≡◌, ◌≢◌, ◌⊎◌, ◌≤◌, true, IfSome, codes};
 ghost use Rattle.sj_io.specs.Causes.{Rose};
+ghost use Rattle.sj_io.specs.Files.{CountsStay};
 ghost use Rattle.sj_io.specs.Sinks.{TakesMore, TakesFront};
 ghost use Rattle.tick_log.specs.Puts.{Puts};
 ghost use Rattle.sj_main.specs.Words.{AreFew};
@@ -80,8 +81,9 @@ fn serve_order<F: Files, K: Sink>(
     ensures refused { result ≡ 1 → IfSome (F.told files.old file.now) (λ bytes. PrintsRefusal bytes (K.taken out.old) (K.taken out.new)) }
     ensures misfit { result ≡ 2 → IfSome (F.told files.old file.now) (λ bytes. IsMisfit bytes turns.now) × TakesMore (K.taken out.old) (K.taken out.new) misfit_line }
     ensures read_fault { result ≡ 3 → Rose (F.faults files.old file.now) (F.faults files.new file.now) × TakesMore (K.taken out.old) (K.taken out.new) (codes "read fault\n") }
-    ensures write_fault { result ≡ 4 → Rose (K.faults out.old) (K.faults out.new) × BeginsOrder (F.told files.old file.now) turns.now (K.taken out.old) (K.taken out.new) }
+    ensures write_fault { result ≡ 4 → Rose (K.faults out.old) (K.faults out.new) × BeginsOrder (F.told files.old file.now) turns.now file.now (F.faults files.old) (F.faults files.new) (K.taken out.old) (K.taken out.new) }
     ensures no_memory { result ≡ 5 → TakesMore (K.taken out.old) (K.taken out.new) (codes "no memory\n") }
+    ensures calm { result ≢ 3 → result ≢ 4 → CountsStay (F.faults files.old) (F.faults files.new) }
     ensures weight { result ≡ 7 → TellsWeight (F.told files.old file.now) turns.now (K.taken out.old) (K.taken out.new) }
 {
     match order(alloc, file, turns, files) {
@@ -123,8 +125,10 @@ pub fn serve_plain<F: Files, K: Sink>(
         ⊎ (OrdersSuch (word_list words.now) (F.told files.old) IsMisfit × TakesMore (K.taken out.old) (K.taken out.new) misfit_line) }
     ensures usage { IsNoCommand (word_list words.now) → (result ≡ 2) ⊎ (result ≡ 4) }
     ensures read_fault { result ≡ 3 → FailsToRead (word_list words.now) (F.faults files.old) (F.faults files.new) × TakesMore (K.taken out.old) (K.taken out.new) (codes "read fault\n") }
-    ensures write_fault { result ≡ 4 → Rose (K.faults out.old) (K.faults out.new) × BeginsAnswer (word_list words.now) (F.told files.old) (K.taken out.old) (K.taken out.new) }
+    ensures write_fault { result ≡ 4 → Rose (K.faults out.old) (K.faults out.new) × BeginsAnswer (word_list words.now) (F.told files.old) (F.faults files.old) (F.faults files.new) (K.taken out.old) (K.taken out.new) }
     ensures no_memory { result ≡ 5 → IsCommand (word_list words.now) × TakesMore (K.taken out.old) (K.taken out.new) (codes "no memory\n") }
+    ensures calm { result ≢ 3 → result ≢ 4 → CountsStay (F.faults files.old) (F.faults files.new) }
+    ensures unread { IsNoCommand (word_list words.now) → CountsStay (F.faults files.old) (F.faults files.new) }
     ensures weight { result ≡ 7 → PrintsWeight (word_list words.now) (F.told files.old) (K.taken out.old) (K.taken out.new) }
 {
     match read_order(alloc, words) {

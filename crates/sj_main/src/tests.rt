@@ -200,10 +200,22 @@ fn refuses_sources(rt: HostRuntime) -> Result<(), Fail> {
         assert_eq!(rt; status, 1);
         assert_eq!(rt; written.as_slice(), b"refused Later\n".as_slice());
     }
-    let long = vec![in rt.alloc(); b' '; 1_048_577]?;
-    let (status, written) = serve(rt.alloc(), &["order", "F", "0", "-"], &long, 100)?;
-    assert_eq!(rt; status, 1);
-    assert_eq!(rt; written.as_slice(), b"refused Size\n".as_slice());
+    Ok(())
+}
+
+#[test]
+fn a_source_has_at_most_1_048_576_bytes(rt: HostRuntime) -> Result<(), Fail> {
+    let cases: [(usize, &[u8]); 3] = [
+        (600_000, b"refused Later\n"),
+        (1_048_576, b"refused Later\n"),
+        (1_048_577, b"refused Size\n"),
+    ];
+    for (bytes, line) in cases {
+        let spaces = vec![in rt.alloc(); b' '; bytes]?;
+        let (status, written) = serve(rt.alloc(), &["order", "F", "0", "-"], &spaces, 100)?;
+        assert_eq!(rt; status, 1);
+        assert_eq!(rt; written.as_slice(), line);
+    }
     Ok(())
 }
 

@@ -52,19 +52,9 @@ fn counts(alloc: Global, turns: &[u32], domains: u32) -> Result<Vec<u32>, NoMemo
     Ok(counts)
 }
 
-/// The turns one by one, of so many domains.
-pub fn schedule(alloc: Global, turns: &Turns, domains: u32) -> Result<Vec<u32>, NoMemory>
-    ensures { IfOk result (λ list. list.items ≡ turns_for turns.now domains) }
-{
-    match turns {
-        Turns::Rounds(rounds) => list_rounds(alloc, *rounds, domains),
-        Turns::Each(each) => Ok(Vec::from_slice(alloc, each.as_slice())?),
-    }
-}
-
-// So many rounds of so many domains.
+/// So many rounds of so many domains, as turns one by one.
 #[tactic(auto, using(crate::proofs::Budgets::listing))]
-fn list_rounds(alloc: Global, rounds: u32, domains: u32) -> Result<Vec<u32>, NoMemory>
+pub fn list_rounds(alloc: Global, rounds: u32, domains: u32) -> Result<Vec<u32>, NoMemory>
     ensures { IfOk result (λ list. list.items ≡ rounds_of rounds domains) }
 {
     let mut list = Vec::with_capacity(alloc, rounds as usize * domains as usize)?;

@@ -10,7 +10,7 @@ use Rattle.kernel_terms.specs.MayEnd.{LoopsWait}
 use Rattle.tick_tree.specs.definitions.Weight.{weight_of, most_weight}
 use Rattle.sj_main.specs.definitions.Tokens.{Spells}
 use Rattle.sj_main.specs.definitions.Grammar.{Block, Done, EmptyThen, PauseThen, EmitThen, WhileThen, SendThen, ReceiveThen, Port, SignalPort, ChannelPort, Program, blocks_of, program_tokens}
-use Rattle.sj_main.specs.definitions.Programs.{Interface, interface_of, domain_statements, emits_of, sends_of, receives_of, tables_for}
+use Rattle.sj_main.specs.definitions.Programs.{Interface, port_interface, domain_statements, emits_of, sends_of, receives_of, tables_for}
 
 abbrev pub most_source_bytes : ℕ
 most_source_bytes = 1048576
@@ -61,9 +61,9 @@ KeepBlocks i (b ∷ bs) = KeepsBlock i b × KeepBlocks i bs
 -- The rules on names, on nesting, and on the numbers of domains and channels.
 pub record KeepsNames (p : Program) : Type 0 where
   pub distinct : are_distinct (port_names p.ports) ≡ true
-  pub channels : length (interface_of p.ports).channels ≤ most_channels
+  pub channels : length (port_interface p.ports).channels ≤ most_channels
   pub domains : length (blocks_of p) ≤ most_domains
-  pub blocks : KeepBlocks (interface_of p.ports) (blocks_of p)
+  pub blocks : KeepBlocks (port_interface p.ports) (blocks_of p)
 
 -- the number stands in the list of this domain
 abbrev pub Uses : (Stmt → List ℕ) → List Stmt → ℕ → ℕ → Type 0
@@ -91,7 +91,7 @@ pub record KeepsOwners (i : Interface) (ps : List Stmt) : Type 0 where
 -- The rules that the reader looks at.
 pub record KeepsPorts (p : Program) : Type 0 where
   pub names : KeepsNames p
-  pub owners : KeepsOwners (interface_of p.ports) (domain_statements p)
+  pub owners : KeepsOwners (port_interface p.ports) (domain_statements p)
 
 -- The static rules. No signal is read, so every domain is causal.
 pub record KeepsRules (p : Program) : Type 0 where

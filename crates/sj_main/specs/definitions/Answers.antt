@@ -1,15 +1,16 @@
 -- What the program has done for its words when it answers.
 use Rattle.std.specs.Prelude.{ℕ, List, Option}
 use Rattle.sj_io.specs.Causes.{Rose}
+use Rattle.sj_io.specs.Files.{CountsStay}
 use Rattle.sj_io.specs.Sinks.{TakesMore, TakesFront}
 use Rattle.sj_main.specs.declared.commands.Turns.{Turns}
 use Rattle.sj_main.specs.definitions.Commands.{IsOrder}
-use Rattle.sj_main.specs.definitions.Verdicts.{IsRunOf, IsRefusal, IsOverweight, OrdersSuch, Outcome, IsAnswer, overweight_line}
+use Rattle.sj_main.specs.definitions.Verdicts.{IsTextOfRun, IsRefusal, IsOverweight, OrdersSuch, Outcome, Done, Refused, NoCommand, Misfit, ReadFault, NoMemory, Overweight, IsAnswer, overweight_line}
 
 -- the sink took the text of the run
 pub record PrintsRun (bytes : List ℕ) (turns : Turns) (old new : Option (List ℕ)) : Type 0 where
   pub text : List ℕ
-  pub is : IsRunOf bytes turns text
+  pub is : IsTextOfRun bytes turns text
   pub takes : TakesMore old new text
 
 -- the sink took the line of the refusal
@@ -31,9 +32,21 @@ pub record FailsToRead (words : List (List ℕ)) (faults faults' : List ℕ → 
   pub command : IsOrder words file turns
   pub rose : Rose (faults file) (faults' file)
 
--- the sink took a front of the text that some answer to the words has
-pub record BeginsAnswer (words : List (List ℕ)) (told : List ℕ → Option (List ℕ)) (old new : Option (List ℕ)) : Type 0 where
+-- what the counts of the files show at an outcome: a read fault has its cause, and at any other outcome
+-- no count has moved
+abbrev pub CountsShow : (cause : Type 0) → (faults faults' : List ℕ → ℕ) → Outcome → Type 0
+CountsShow cause faults faults' Done = CountsStay faults faults'
+CountsShow cause faults faults' Refused = CountsStay faults faults'
+CountsShow cause faults faults' NoCommand = CountsStay faults faults'
+CountsShow cause faults faults' Misfit = CountsStay faults faults'
+CountsShow cause faults faults' ReadFault = cause
+CountsShow cause faults faults' NoMemory = CountsStay faults faults'
+CountsShow cause faults faults' (Overweight weight) = CountsStay faults faults'
+
+-- the sink took a front of the text that some answer to the words has, and the files' counts fit that answer
+pub record BeginsAnswer (words : List (List ℕ)) (told : List ℕ → Option (List ℕ)) (faults faults' : List ℕ → ℕ) (old new : Option (List ℕ)) : Type 0 where
   pub outcome : Outcome
   pub text : List ℕ
   pub is : IsAnswer words told outcome text
+  pub counts : CountsShow (FailsToRead words faults faults') faults faults' outcome
   pub takes : TakesFront old new text

@@ -41,14 +41,14 @@ pub record IsEach (word turns : List ℕ) : Type 0 where
   pub domains : AreDomains turns
   pub few : (d : ℕ) → turns_of d turns ≤ most_turns
 
-pub record IsRounds (word : List ℕ) (rounds : ℕ) : Type 0 where
+pub record IsRoundCount (word : List ℕ) (rounds : ℕ) : Type 0 where
   pub digits : List ℕ
   pub is : word ≡ codes "rr:" ++ digits
   pub number : whole_number most_turns digits ≡ Some rounds
 
 -- turns one by one, or rounds of all domains
 abbrev pub IsTurns : List ℕ → Turns → Type 0
-IsTurns word (Rounds n) = IsRounds word n
+IsTurns word (Rounds n) = IsRoundCount word n
 IsTurns word (Each turns) = IsEach word turns
 
 -- so many rounds, each a turn of each of so many domains by rising number

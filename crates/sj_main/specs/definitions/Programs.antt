@@ -20,18 +20,18 @@ pub record Interface : Type 0 where
   pub signals : List (List ℕ)
   pub channels : List (List ℕ)
 
-abbrev pub signal_names : List Port → List (List ℕ)
-signal_names [] = []
-signal_names (SignalPort name ∷ ports) = name ∷ signal_names ports
-signal_names (ChannelPort name ∷ ports) = signal_names ports
+abbrev pub port_signals : List Port → List (List ℕ)
+port_signals [] = []
+port_signals (SignalPort name ∷ ports) = name ∷ port_signals ports
+port_signals (ChannelPort name ∷ ports) = port_signals ports
 
-abbrev pub channel_names : List Port → List (List ℕ)
-channel_names [] = []
-channel_names (SignalPort name ∷ ports) = channel_names ports
-channel_names (ChannelPort name ∷ ports) = name ∷ channel_names ports
+abbrev pub port_channels : List Port → List (List ℕ)
+port_channels [] = []
+port_channels (SignalPort name ∷ ports) = port_channels ports
+port_channels (ChannelPort name ∷ ports) = name ∷ port_channels ports
 
-abbrev pub interface_of : List Port → Interface
-interface_of ports = record { signals = signal_names ports; channels = channel_names ports }
+abbrev pub port_interface : List Port → Interface
+port_interface ports = record { signals = port_signals ports; channels = port_channels ports }
 
 -- the number of the name's signal
 abbrev pub signal_of : Interface → List ℕ → ℕ
@@ -57,7 +57,7 @@ block_statement i b = sequence (parts_of i b)
 
 -- the statement of each domain, by rising number
 abbrev pub domain_statements : Program → List Stmt
-domain_statements p = map (block_statement (interface_of p.ports)) (blocks_of p)
+domain_statements p = map (block_statement (port_interface p.ports)) (blocks_of p)
 
 -- the signals that a statement emits
 abbrev pub emits_of : Stmt → List ℕ
@@ -158,8 +158,8 @@ tables_for i ps = record {
 }
 
 abbrev pub tables_of_program : Program → Tables
-tables_of_program p = tables_for (interface_of p.ports) (domain_statements p)
+tables_of_program p = tables_for (port_interface p.ports) (domain_statements p)
 
 -- the program as the rules take it, with these inputs
-abbrev pub setup_of : Program → Inputs → Setup
-setup_of p inputs = record { tables = tables_of_program p; statements = domain_statements p; inputs = inputs }
+abbrev pub program_setup : Program → Inputs → Setup
+program_setup p inputs = record { tables = tables_of_program p; statements = domain_statements p; inputs = inputs }

@@ -8,7 +8,7 @@ use Rattle.domain_core.specs.definitions.runs.Systems.{SystemState}
 use Rattle.domain_core.specs.definitions.runs.Scheduled.{IsScheduledRun, IsWholeRun}
 use Rattle.sj_main.specs.declared.commands.Turns.{Turns}
 use Rattle.sj_main.specs.definitions.Grammar.{Program}
-use Rattle.sj_main.specs.definitions.Programs.{tables_of_program, setup_of}
+use Rattle.sj_main.specs.definitions.Programs.{tables_of_program, program_setup}
 use Rattle.sj_main.specs.definitions.Accepted.{most_source_bytes, IsSourceOf, IsAccepted}
 use Rattle.sj_main.specs.definitions.Commands.{FitDomains, IsOrder, IsNoCommand}
 use Rattle.sj_main.specs.definitions.RunWeight.{most_run_weight, domain_count_of, turns_of_program, run_weight_of}
@@ -29,14 +29,14 @@ pub record CanRun (p : Program) (turns : Turns) : Type 0 where
 
 -- The text is that of the run of the turns of the bytes' program: the scheduled run, which is legal, spends
 -- the budgets and is at rest.
-pub record IsRunOf (bytes : List ℕ) (turns : Turns) (text : List ℕ) : Type 0 where
+pub record IsTextOfRun (bytes : List ℕ) (turns : Turns) (text : List ℕ) : Type 0 where
   pub program : Program
   pub source : IsSourceOf bytes program
   pub can : CanRun program turns
   pub run : RunState
   pub last : SystemState
-  pub scheduled : IsScheduledRun (setup_of program no_inputs) run (turns_of_program program turns) last
-  pub whole : IsWholeRun (setup_of program no_inputs) run (turns_of_program program turns)
+  pub scheduled : IsScheduledRun (program_setup program no_inputs) run (turns_of_program program turns) last
+  pub whole : IsWholeRun (program_setup program no_inputs) run (turns_of_program program turns)
   pub is : text ≡ run_text (tables_of_program program) run
 
 -- the first check that fails refuses the bytes with this line
@@ -78,7 +78,7 @@ pub data Outcome : Type 0 where
 
 -- the text of each answer to the order of a file, and when it may come, where its bytes are told
 abbrev pub IsOrderAnswer : Option (List ℕ) → Turns → Outcome → List ℕ → Type 0
-IsOrderAnswer told turns Done text = IfSome told (λ bytes. IsRunOf bytes turns text)
+IsOrderAnswer told turns Done text = IfSome told (λ bytes. IsTextOfRun bytes turns text)
 IsOrderAnswer told turns Refused text = IfSome told (λ bytes. IsRefusal bytes text)
 IsOrderAnswer told turns NoCommand text = ⊥
 IsOrderAnswer told turns Misfit text = IfSome told (λ bytes. IsMisfit bytes turns) × (text ≡ misfit_line)

@@ -2,7 +2,7 @@ ghost use Rattle.std.specs.Prelude.{◌≡◌, ◌∷◌, [], IfOk, MatchBool, M
 ghost use Rattle.sj_main.specs.declared.token.Token.TheVariants.{Sign};
 ghost use Rattle.sj_main.specs.declared.token.Mark.TheVariants as mark;
 ghost use Rattle.sj_main.specs.ReadingTokens.{tokens_of};
-ghost use Rattle.sj_main.specs.ReadingNames.{names_of, IsSmall};
+ghost use Rattle.sj_main.specs.ReadingNames.{names_of};
 ghost use Rattle.sj_main.specs.ReadingPrograms.{ReadsDomain, NoDomain, DomainsRead, NoDomains, IsNotEnd};
 
 use crate::reader::lexer::Placed;
@@ -28,10 +28,9 @@ struct ReadDomain<'a> {
 #[tactic(auto, using(crate::proofs::ReadDomains::domain_reading))]
 fn domain<'a>(
     alloc: Global,
-    names: &Names,
+    names: &Names<'_>,
     tokens: &'a [Placed],
 ) -> Result<Option<ReadDomain<'a>>, NoMemory>
-    requires { IsSmall (names_of names.now) }
     ensures { IfOk result (λ o. MatchOption o (NoDomain (names_of names.now) (tokens_of tokens.now)) (λ r. ReadsDomain (names_of names.now) (tokens_of tokens.now) r.term (tokens_of r.rest.now))) }
 {
     let Some(opened) = after_sign(tokens, Mark::OpenBrace) else {
@@ -58,10 +57,9 @@ fn ends_program(tokens: &[Placed]) -> bool
 #[tactic(auto, using(crate::proofs::ReadDomains::domain_steps))]
 pub fn domains(
     alloc: Global,
-    names: &Names,
+    names: &Names<'_>,
     tokens: &[Placed],
 ) -> Result<Option<Vec<Term>>, NoMemory>
-    requires { IsSmall (names_of names.now) }
     ensures { IfOk result (λ o. MatchOption o (NoDomains (names_of names.now) (tokens_of tokens.now)) (λ v. DomainsRead (names_of names.now) (tokens_of tokens.now) v.items)) }
 {
     let Some(ReadDomain { term, rest }) = domain(alloc, names, tokens)? else {

@@ -1,6 +1,6 @@
-ghost use Rattle.std.specs.Prelude.{◌≡◌, ◌≤◌, ◌<◌, IfOk, MatchOption, length, Some, None};
+ghost use Rattle.std.specs.Prelude.{◌≡◌, ◌≤◌, ◌<◌, IfOk, IfSome, MatchOption, length, Some, None};
 ghost use Rattle.sj_main.specs.definitions.Tokens.{skip_white, run_token, sign_front, next_token, Spells};
-ghost use Rattle.sj_main.specs.ReadingTokens.{tokens_of, run_front, SpellsNothing};
+ghost use Rattle.sj_main.specs.ReadingTokens.{tokens_of, run_front, SpellsNothing, ArePlaced};
 
 use super::numbers::literal_value;
 use super::words::{is_letter, is_word_byte, sign_token, white_len, word_len, word_token};
@@ -85,7 +85,8 @@ fn next_token(alloc: Global, bytes: &[u8]) -> Result<Option<Next<'_>>, NoMemory>
 #[tactic(auto, using(crate::proofs::ReadTokens::lexing))]
 pub fn lex(alloc: Global, source: &[u8]) -> Result<Option<Vec<Placed>>, NoMemory>
     requires { length source.now ≤ 1048576 }
-    ensures { IfOk result (λ o. MatchOption o (SpellsNothing source.now) (λ v. Spells source.now (tokens_of v.items))) }
+    ensures tokens { IfOk result (λ o. MatchOption o (SpellsNothing source.now) (λ v. Spells source.now (tokens_of v.items))) }
+    ensures places { IfOk result (λ o. IfSome o (λ v. ArePlaced source.now v.items)) }
 {
     let mut placed = Vec::new(alloc);
     let mut front = after_white(source);

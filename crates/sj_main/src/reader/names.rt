@@ -1,68 +1,79 @@
-ghost use Rattle.std.specs.Prelude.{◌≡◌, ◌<◌, [], false, true, IfOk, MatchOption, MatchBool, length, get_or};
+ghost use Rattle.std.specs.Prelude.{◌≡◌, ◌<◌, ◌^◌, ◌↔◌, [], false, true, IfOk, IsTrue, MatchOption, MatchBool, length, get_or};
 ghost use Rattle.std.specs.List.{list_any};
 ghost use Rattle.std.specs.Str.{bytes_eq};
-ghost use Rattle.sj_main.specs.ReadingNames.{set_names, names_of, AreFew, IsSmall, IsPlace, IsAdded, port_of, is_taken, Declared};
+ghost use Rattle.sj_main.specs.NamedNumbers.{AreNumbered};
 
-use indexmap::IndexSet;
 use java_values::NoMemory;
 use std::alloc::Global;
+use std::collections::BTreeMap;
 
-/// Names in order of declaration.
+/// How many signals a program may have: 1,024 for each of 16 domains.
+const MOST_SIGNALS: usize = 16_384;
+
+/// How many channels a program may have.
+const MOST_CHANNELS: usize = 64;
+
+/// Names in order of declaration, and the number of each.
 #[derive(Drop)]
-pub struct NameSet {
-    set: IndexSet<Vec<u8>>,
+pub struct NameSet<'a> {
+    names: Vec<&'a [u8]>,
+    numbers: BTreeMap<&'a [u8], u32>,
+    ghost numbered: { AreNumbered names.items numbers },
 }
 
-impl NameSet {
-    fn new(alloc: Global) -> NameSet
+impl<'a> NameSet<'a> {
+    ghost use Rattle.sj_main.specs.ReadingNames.{set_names, IsPlace, IsAdded};
+
+    fn new(alloc: Global) -> NameSet<'a>
         ensures { set_names result ≡ [] }
     {
         NameSet {
-            set: IndexSet::new(alloc),
+            names: Vec::new(alloc),
+            numbers: BTreeMap::new(alloc),
         }
     }
 
     /// The place of this name.
     pub fn place(&self, name: &[u8]) -> Option<u32>
-        requires { AreFew (set_names self.now) }
         ensures { MatchOption result (list_any (bytes_eq name.now) (set_names self.now) ≡ false) (λ i. IsPlace (set_names self.now) name.now i) }
     {
-        let Some(index) = self.set.get_index_of(name) else {
-            return None;
-        };
-        Some(index as u32)
+        self.numbers.get(name).copied()
     }
 
     fn has(&self, name: &[u8]) -> bool
-        requires { AreFew (set_names self.now) }
         ensures { result ≡ list_any (bytes_eq name.now) (set_names self.now) }
     {
-        match self.place(name) {
-            Some(_) => true,
-            None => false,
-        }
+        self.place(name).is_some()
     }
 
     /// Adds the name, and answers whether it is new.
-    fn declare(&mut self, alloc: Global, name: &[u8]) -> Result<bool, NoMemory>
+    fn declare(&mut self, name: &'a [u8]) -> Result<bool, NoMemory>
+        requires few { length (set_names self.old) < 2 ^ 32 }
         ensures { IfOk result (λ added. MatchBool added (IsAdded (set_names self.old) (set_names self.new) name.now) (list_any (bytes_eq name.now) (set_names self.old) ≡ true)) }
     {
-        let (_, added) = self.set.insert_full(Vec::from_slice(alloc, name)?)?;
-        Ok(added)
+        if self.has(name) {
+            return Ok(false);
+        }
+        let number = self.names.len() as u32;
+        self.names.push(name)?;
+        if self.numbers.insert(name, number).is_err() {
+            self.names.pop();
+            return Err(NoMemory);
+        }
+        Ok(true)
     }
 
     pub fn len(&self) -> usize
         ensures { result ≡ length (set_names self.now) }
     {
-        self.set.len()
+        self.names.len()
     }
 
-    pub fn name(&self, index: usize) -> &[u8]
+    pub fn name(&self, index: usize) -> &'a [u8]
         requires { index < length (set_names self.now) }
         ensures { result.now ≡ get_or (set_names self.now) index result.now }
     {
-        let name = &self.set.as_slice()[index];
-        name.as_slice()
+        self.names[index]
     }
 }
 
@@ -75,13 +86,15 @@ pub enum PortKind {
 
 /// The names of the signals and of the channels.
 #[derive(Drop)]
-pub struct Names {
-    pub signals: NameSet,
-    pub channels: NameSet,
+pub struct Names<'a> {
+    pub signals: NameSet<'a>,
+    pub channels: NameSet<'a>,
 }
 
-impl Names {
-    pub fn new(alloc: Global) -> Names
+impl<'a> Names<'a> {
+    ghost use Rattle.sj_main.specs.ReadingNames.{names_of, IsWithinLimits, port_of, is_taken, Declared};
+
+    pub fn new(alloc: Global) -> Names<'a>
         ensures signals { (names_of result).signals ≡ [] }
         ensures channels { (names_of result).channels ≡ [] }
     {
@@ -91,9 +104,16 @@ impl Names {
         }
     }
 
+    /// Whether a program may have so many ports.
+    pub fn are_within_limits(&self) -> bool
+        ensures { IsTrue result ↔ IsWithinLimits (names_of self.now) }
+    {
+        self.signals.len() <= MOST_SIGNALS && self.channels.len() <= MOST_CHANNELS
+    }
+
     /// Adds the port, and answers whether its name is new.
-    pub fn declare(&mut self, alloc: Global, kind: PortKind, name: &[u8]) -> Result<bool, NoMemory>
-        requires small { IsSmall (names_of self.old) }
+    pub fn declare(&mut self, kind: PortKind, name: &'a [u8]) -> Result<bool, NoMemory>
+        requires limits { IsWithinLimits (names_of self.old) }
         ensures { IfOk result (λ added. MatchBool added (Declared (names_of self.old) (names_of self.new) (port_of kind name.now) name.now) (is_taken (names_of self.old) name.now ≡ true)) }
     {
         match kind {
@@ -101,13 +121,13 @@ impl Names {
                 if self.channels.has(name) {
                     return Ok(false);
                 }
-                self.signals.declare(alloc, name)
+                self.signals.declare(name)
             }
             PortKind::Channel => {
                 if self.signals.has(name) {
                     return Ok(false);
                 }
-                self.channels.declare(alloc, name)
+                self.channels.declare(name)
             }
         }
     }

@@ -178,7 +178,7 @@ fn tell_domain(domains: &[Term], i: usize, term: &Term)
 {}
 
 /// How many numbers there are.
-fn limit(role: Role, names: &Names) -> usize
+fn limit(role: Role, names: &Names<'_>) -> usize
     ensures { result ≡ limit_of role (names_of names.now) }
 {
     match role {
@@ -189,15 +189,11 @@ fn limit(role: Role, names: &Names) -> usize
 }
 
 /// So many numbers that belong to no domain.
-#[tactic(auto, using(crate::proofs::ReadOwners::unowned_steps))]
+#[tactic(auto, using(crate::proofs::ReadOwners::all_unowned))]
 fn unowned(alloc: Global, count: usize) -> Result<Vec<Option<u32>>, NoMemory>
     ensures { IfOk result (λ v. AreUnowned v.items count) }
 {
-    let mut owners = Vec::new(alloc);
-    for i in 0..count {
-        owners.push(None)?;
-    }
-    Ok(owners)
+    Ok(vec![in alloc; None; count]?)
 }
 
 /// The domain to which each number belongs in this role, where no number belongs to two.
@@ -205,7 +201,7 @@ fn unowned(alloc: Global, count: usize) -> Result<Vec<Option<u32>>, NoMemory>
 pub fn owners(
     alloc: Global,
     role: Role,
-    names: &Names,
+    names: &Names<'_>,
     domains: &[Term],
 ) -> Result<Option<Vec<Option<u32>>>, NoMemory>
     requires built { AreBuilt (names_of names.now) domains.now }

@@ -1,4 +1,4 @@
-ghost use Rattle.std.specs.Prelude.{◌≤◌, IfOk, MatchOption, length};
+ghost use Rattle.std.specs.Prelude.{IfOk, MatchOption};
 ghost use Rattle.sj_main.specs.definitions.Grammar.{SignalPort, ChannelPort};
 ghost use Rattle.sj_main.specs.ReadingTokens.{tokens_of};
 ghost use Rattle.sj_main.specs.ReadingNames.{names_of, port_of};
@@ -14,7 +14,7 @@ use std::alloc::Global;
 /// The names of the ports, and the tokens after their brace.
 #[derive(Drop)]
 pub struct ReadPorts<'a> {
-    pub names: Names,
+    pub names: Names<'a>,
     pub rest: &'a [Placed],
 }
 
@@ -74,7 +74,6 @@ fn port(tokens: &[Placed]) -> Option<Found<'_>>
 
 /// The ports up to the brace that closes the interface.
 pub fn ports(alloc: Global, tokens: &[Placed]) -> Result<Option<ReadPorts<'_>>, NoMemory>
-    requires { length (tokens_of tokens.now) ≤ 1048576 }
     ensures { IfOk result (λ o. MatchOption o (NoPorts (tokens_of tokens.now)) (λ p. PortsRead (tokens_of tokens.now) (names_of p.names) (tokens_of p.rest.now))) }
 {
     let mut names = Names::new(alloc);
@@ -86,7 +85,10 @@ pub fn ports(alloc: Global, tokens: &[Placed]) -> Result<Option<ReadPorts<'_>>, 
         let Some(found) = port(front) else {
             return Ok(None);
         };
-        if !names.declare(alloc, found.kind, found.name.bytes())? {
+        if !names.declare(found.kind, found.name.bytes())? {
+            return Ok(None);
+        }
+        if !names.are_within_limits() {
             return Ok(None);
         }
         front = found.rest;

@@ -1,4 +1,4 @@
-ghost use Rattle.std.specs.Prelude.{◌≤◌, IfOk, MatchOption, length};
+ghost use Rattle.std.specs.Prelude.{IfOk, MatchOption};
 ghost use Rattle.sj_main.specs.ReadingTokens.{tokens_of};
 ghost use Rattle.sj_main.specs.ReadingPrograms.{StartsProgram, StartsNoProgram, PortsAreNamed, IsReadFrom, NoProgram};
 
@@ -13,9 +13,6 @@ use kernel_terms::System;
 use sqlite_items::Items;
 use std::alloc::Global;
 
-/// How many channels a program may have.
-const MOST_CHANNELS: usize = 64;
-
 /// The tokens after `system { interface {`.
 fn after_program_head(tokens: &[Placed]) -> Option<&[Placed]>
     ensures { MatchOption result (StartsNoProgram (tokens_of tokens.now)) (λ ports. StartsProgram (tokens_of tokens.now) (tokens_of ports.now)) }
@@ -29,8 +26,7 @@ fn after_program_head(tokens: &[Placed]) -> Option<&[Placed]>
 /// The system of the program that the tokens are.
 #[tactic(auto, using(crate::proofs::ReadPrograms::program_steps))]
 pub fn program(alloc: Global, tokens: &[Placed]) -> Result<Option<System>, NoMemory>
-    requires named { PortsAreNamed (tokens_of tokens.now) }
-    requires small { length (tokens_of tokens.now) ≤ 1048576 }
+    requires { PortsAreNamed (tokens_of tokens.now) }
     ensures { IfOk result (λ o. MatchOption o (NoProgram (tokens_of tokens.now)) (λ s. IsReadFrom (tokens_of tokens.now) s)) }
 {
     let Some(inner) = after_program_head(tokens) else {
@@ -39,9 +35,6 @@ pub fn program(alloc: Global, tokens: &[Placed]) -> Result<Option<System>, NoMem
     let Some(ReadPorts { names, rest }) = ports(alloc, inner)? else {
         return Ok(None);
     };
-    if names.channels.len() > MOST_CHANNELS {
-        return Ok(None);
-    }
     let Some(terms) = domains(alloc, &names, rest)? else {
         return Ok(None);
     };

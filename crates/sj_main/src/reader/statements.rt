@@ -4,7 +4,7 @@ ghost use Rattle.sj_main.specs.declared.token.Token.TheVariants.{Sign};
 ghost use Rattle.sj_main.specs.declared.token.Mark.TheVariants as mark;
 ghost use Rattle.sj_main.specs.definitions.Accepted.{most_open};
 ghost use Rattle.sj_main.specs.ReadingTokens.{tokens_of, offset_of};
-ghost use Rattle.sj_main.specs.ReadingNames.{names_of, IsSmall};
+ghost use Rattle.sj_main.specs.ReadingNames.{names_of};
 ghost use Rattle.sj_main.specs.ReadingBlocks.{BeginsNot, Reads, ReadsAlways, ReadsAtAnyLevel, IsRead, IsSequence, StartsLoop, StartsNoLoop, StartsSend, StartsNoSend, NoPause, NoEmit, NoSend, NoReceive, NoLoop, NoStatement, NoBlock};
 
 use crate::reader::lexer::Placed;
@@ -78,8 +78,7 @@ fn pause(tokens: &[Placed]) -> Option<Read<'_>>
     Some(Read { term, rest })
 }
 
-fn emit<'a>(names: &Names, tokens: &'a [Placed]) -> Option<Read<'a>>
-    requires { IsSmall (names_of names.now) }
+fn emit<'a>(names: &Names<'_>, tokens: &'a [Placed]) -> Option<Read<'a>>
     ensures { MatchOption result (NoEmit (names_of names.now) (tokens_of tokens.now)) (λ r. ReadsAtAnyLevel (names_of names.now) (tokens_of tokens.now) r.term (tokens_of r.rest.now)) }
 {
     let after = after_word(tokens, Word::Emit)?;
@@ -96,8 +95,7 @@ fn emit<'a>(names: &Names, tokens: &'a [Placed]) -> Option<Read<'a>>
     Some(Read { term, rest })
 }
 
-fn receive<'a>(names: &Names, tokens: &'a [Placed]) -> Option<Read<'a>>
-    requires { IsSmall (names_of names.now) }
+fn receive<'a>(names: &Names<'_>, tokens: &'a [Placed]) -> Option<Read<'a>>
     ensures { MatchOption result (NoReceive (names_of names.now) (tokens_of tokens.now)) (λ r. ReadsAtAnyLevel (names_of names.now) (tokens_of tokens.now) r.term (tokens_of r.rest.now)) }
 {
     let after = after_word(tokens, Word::Receive)?;
@@ -137,8 +135,7 @@ fn send_parts(tokens: &[Placed]) -> Option<SendParts<'_>>
 }
 
 /// The send that the tokens begin with. Its parenthesis is one level deeper.
-fn send<'a>(names: &Names, level: u32, tokens: &'a [Placed]) -> Option<Read<'a>>
-    requires { IsSmall (names_of names.now) }
+fn send<'a>(names: &Names<'_>, level: u32, tokens: &'a [Placed]) -> Option<Read<'a>>
     ensures { MatchOption result (NoSend (names_of names.now) level (tokens_of tokens.now)) (λ r. Reads (names_of names.now) level (tokens_of tokens.now) (r.term ∷ []) (tokens_of r.rest.now)) }
 {
     let parts = send_parts(tokens)?;
@@ -183,12 +180,11 @@ pub struct Body<'a> {
 #[cycle(blocks)]
 fn loop_statement<'a>(
     alloc: Global,
-    names: &Names,
+    names: &Names<'_>,
     level: u32,
     tokens: &'a [Placed],
 ) -> Result<Option<Read<'a>>, NoMemory>
-    requires names { IsSmall (names_of names.now) }
-    requires within { level ≤ most_open }
+    requires { level ≤ most_open }
     ensures { IfOk result (λ o. MatchOption o (NoLoop (names_of names.now) level (tokens_of tokens.now)) (λ r. Reads (names_of names.now) level (tokens_of tokens.now) (r.term ∷ []) (tokens_of r.rest.now))) }
 {
     let Some(inner) = after_loop_head(tokens) else {
@@ -212,12 +208,11 @@ fn loop_statement<'a>(
 #[cycle(blocks)]
 fn statement<'a>(
     alloc: Global,
-    names: &Names,
+    names: &Names<'_>,
     level: u32,
     tokens: &'a [Placed],
 ) -> Result<Option<Read<'a>>, NoMemory>
-    requires names { IsSmall (names_of names.now) }
-    requires within { level ≤ most_open }
+    requires { level ≤ most_open }
     ensures { IfOk result (λ o. MatchOption o (NoStatement (names_of names.now) level (tokens_of tokens.now)) (λ r. Reads (names_of names.now) level (tokens_of tokens.now) (r.term ∷ []) (tokens_of r.rest.now))) }
 {
     if let Some(read) = empty(tokens) {
@@ -242,12 +237,11 @@ fn statement<'a>(
 #[cycle(blocks)]
 pub fn block<'a>(
     alloc: Global,
-    names: &Names,
+    names: &Names<'_>,
     level: u32,
     tokens: &'a [Placed],
 ) -> Result<Option<Body<'a>>, NoMemory>
-    requires names { IsSmall (names_of names.now) }
-    requires within { level ≤ most_open }
+    requires { level ≤ most_open }
     ensures { IfOk result (λ o. MatchOption o (NoBlock (names_of names.now) level (tokens_of tokens.now)) (λ b. IsRead (names_of names.now) level (tokens_of tokens.now) b.terms.items (tokens_of b.rest.now))) }
 {
     let mut terms = Vec::new(alloc);

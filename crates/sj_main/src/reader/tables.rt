@@ -1,4 +1,4 @@
-ghost use Rattle.std.specs.Prelude.{◌≡◌, ◌≢◌, ◌<◌, ◌≤◌, ◌+◌, Some, IfOk, MatchOption, MatchBool, length, map, unwrap_or};
+ghost use Rattle.std.specs.Prelude.{◌≡◌, ◌≢◌, ◌<◌, ◌≤◌, ◌+◌, Some, IfOk, MatchOption, MatchBool, length, map};
 ghost use Rattle.sj_main.specs.BuiltTerms.{AreBuilt};
 ghost use Rattle.kernel_terms.specs.Statements.{statement};
 ghost use Rattle.sj_main.specs.definitions.Programs.{signals_from};
@@ -15,19 +15,10 @@ use std::alloc::Global;
 /// How many signals may belong to one domain.
 const MOST_SIGNALS: usize = 1024;
 
-fn owner_or_first(owner: Option<u32>) -> u32
-    ensures { result ≡ unwrap_or owner 0 }
-{
-    match owner {
-        Some(domain) => domain,
-        None => 0,
-    }
-}
-
 /// The pure outputs of these names, each of its owner or of domain 0.
 fn make_signals(
     alloc: Global,
-    names: &NameSet,
+    names: &NameSet<'_>,
     owners: &[Option<u32>],
 ) -> Result<Vec<SignalInfo>, NoMemory>
     requires { length owners.now ≡ length (set_names names.now) }
@@ -36,7 +27,7 @@ fn make_signals(
     let mut signals = Vec::new(alloc);
     for i in 0..names.len() {
         let name = Text::new(alloc, names.name(i))?;
-        let domain = owner_or_first(owners[i]);
+        let domain = owners[i].unwrap_or(0);
         signals.push(SignalInfo {
             name,
             domain,
@@ -49,17 +40,14 @@ fn make_signals(
 }
 
 /// How many of the signals belong to the domain.
-#[tactic(auto, using(crate::proofs::ReadTables::count_steps))]
+#[tactic(auto, using(crate::proofs::ReadTables::counted))]
 fn count(signals: &[SignalInfo], domain: u32) -> usize
     ensures { result ≡ count_of domain signals.now }
 {
-    let mut number = 0;
-    for i in 0..signals.len() {
-        if signals[i].domain == domain {
-            number += 1;
-        }
-    }
-    number
+    signals
+        .iter()
+        .filter(|signal| signal.domain == domain)
+        .count()
 }
 
 /// Whether few signals belong to each domain.
@@ -99,7 +87,7 @@ fn pair(sender: Option<u32>, receiver: Option<u32>) -> Option<Ends>
 /// The channels of these names, where each has two domains.
 fn make_channels(
     alloc: Global,
-    names: &NameSet,
+    names: &NameSet<'_>,
     senders: &[Option<u32>],
     receivers: &[Option<u32>],
 ) -> Result<Option<Vec<ChannelInfo>>, NoMemory>
@@ -126,7 +114,7 @@ fn make_channels(
 /// The tables of these domains, where they keep the rules on owners.
 pub fn make_tables(
     alloc: Global,
-    names: &Names,
+    names: &Names<'_>,
     domains: &[Term],
 ) -> Result<Option<Tables>, NoMemory>
     requires built { AreBuilt (names_of names.now) domains.now }

@@ -224,3 +224,41 @@ fn reads_64_channels(rt: HostRuntime) -> Result<(), Fail> {
     assert!(rt; !is_read(rt.alloc(), &more)?);
     Ok(())
 }
+
+/// A program of 16 domains, of which each emits so many signals of its own.
+fn emitting(alloc: Global, signals: u32) -> Result<String, Fail> {
+    let mut source = String::from_str(alloc, "system{interface{")?;
+    let mut domains = String::new(alloc);
+    for domain in 0..16u32 {
+        domains.push_str(if domain == 0 { "{" } else { "><{" })?;
+        for signal in 0..signals {
+            source.push_str(format!(in alloc; "output signal A{domain}_{signal};")?.as_str())?;
+            domains.push_str(format!(in alloc; "emit A{domain}_{signal};")?.as_str())?;
+        }
+        domains.push_str("}")?;
+    }
+    source.push_str("}")?;
+    source.push_str(domains.as_str())?;
+    source.push_str("}")?;
+    Ok(source)
+}
+
+#[test]
+fn reads_1024_signals_of_each_domain(rt: HostRuntime) -> Result<(), Fail> {
+    let most = emitting(rt.alloc(), 1024)?;
+    assert!(rt; is_read(rt.alloc(), most.as_bytes())?);
+    let more = emitting(rt.alloc(), 1025)?;
+    assert!(rt; !is_read(rt.alloc(), more.as_bytes())?);
+    Ok(())
+}
+
+#[test]
+fn refuses_40_000_signals(rt: HostRuntime) -> Result<(), Fail> {
+    let mut source = String::from_str(rt.alloc(), "system{interface{")?;
+    for signal in 0..40_000u32 {
+        source.push_str(format!(in rt.alloc(); "output signal A{signal};")?.as_str())?;
+    }
+    source.push_str("}{}}")?;
+    assert!(rt; !is_read(rt.alloc(), source.as_bytes())?);
+    Ok(())
+}

@@ -1,15 +1,9 @@
-use Rattle.std.proofs.Common.{◌∙◌, ◌≤◌, length, arith, ap}
-use Rattle.kernel_terms.specs.Limits.{most_channels}
+use Rattle.std.proofs.Common.{◌∙◌, ap}
 use Rattle.kernel_terms.specs.WellFormed.{is_well_formed}
 use Rattle.sj_main.specs.ReadingTokens.{tokens_of}
 use Rattle.sj_main.specs.ReadingNames.{names_of}
-use Rattle.sj_main.proofs.ReadPrograms.{program_channels, program_domains, program_owners, program_formed, program_read}
+use Rattle.sj_main.proofs.ReadPrograms.{program_domains, program_owners, program_formed, program_read}
 use Rattle.sj_main.proofs.reader.program.program.Goals as goal
-
-pub returns-then-len-gt-MOST_CHANNELS : goal.returns-then-len-gt-MOST_CHANNELS
-returns-then-len-gt-MOST_CHANNELS c =
-    let r = rw c.in-Some-2.is at c.in_ok-names.ensures in
-    program_channels (tokens_of c.args.tokens.now) (tokens_of c.in-Some.inner.now) (tokens_of c.in-Some-2.field-0.rest.now) (names_of c.in-Some-2.field-0.names) c.in-Some.ensures r (let l = c.if-len-gt-MOST_CHANNELS.true in let k = c.len.ensures in omega arith)
 
 pub returns-in_default-3 : goal.returns-in_default-3
 returns-in_default-3 c =
@@ -28,14 +22,12 @@ new-requires c =
     let r = rw c.in-Some-2.is at c.in_ok-names.ensures in
     let d = rw c.in-Some-3.is at c.in_ok-terms.ensures in
     let t = rw c.deref.ensures.value at (rw c.in-Some-4.is at c.in_ok-tables.ensures) in
-    let few : length (names_of c.in-Some-2.field-0.names).channels ≤ most_channels = (let l = c.if-len-gt-MOST_CHANNELS.false in let k = c.len.ensures in omega arith) in
     ap (is_well_formed c.in-Some-4.tables) c.from_vec.ensures
-    ∙ program_formed (tokens_of c.args.tokens.now) (tokens_of c.in-Some.inner.now) (tokens_of c.in-Some-2.field-0.rest.now) (names_of c.in-Some-2.field-0.names) c.in-Some-3.terms.items c.in-Some-4.tables c.requires.named c.in-Some.ensures r few d t
+    ∙ program_formed (tokens_of c.args.tokens.now) (tokens_of c.in-Some.inner.now) (tokens_of c.in-Some-2.field-0.rest.now) (names_of c.in-Some-2.field-0.names) c.in-Some-3.terms.items c.in-Some-4.tables c.requires c.in-Some.ensures r d t
 
 pub returns : goal.returns
 returns c =
     let r = rw c.in-Some-2.is at c.in_ok-names.ensures in
     let d = rw c.in-Some-3.is at c.in_ok-terms.ensures in
     let t = rw c.deref.ensures.value at (rw c.in-Some-4.is at c.in_ok-tables.ensures) in
-    let few : length (names_of c.in-Some-2.field-0.names).channels ≤ most_channels = (let l = c.if-len-gt-MOST_CHANNELS.false in let k = c.len.ensures in omega arith) in
-    program_read (tokens_of c.args.tokens.now) (tokens_of c.in-Some.inner.now) (tokens_of c.in-Some-2.field-0.rest.now) (names_of c.in-Some-2.field-0.names) c.in-Some-3.terms.items c.in-Some-4.tables c.new.result c.in-Some.ensures r few d t c.new.ensures.tables (c.new.ensures.domains ∙ c.from_vec.ensures)
+    program_read (tokens_of c.args.tokens.now) (tokens_of c.in-Some.inner.now) (tokens_of c.in-Some-2.field-0.rest.now) (names_of c.in-Some-2.field-0.names) c.in-Some-3.terms.items c.in-Some-4.tables c.new.result c.in-Some.ensures r d t c.new.ensures.tables (c.new.ensures.domains ∙ c.from_vec.ensures)

@@ -1,5 +1,9 @@
-use Rattle.sj_main.proofs.ReadNames.{added_both}
+use Rattle.std.proofs.Common.{sym, ◌∙◌}
+use Rattle.sj_main.proofs.NameNumbers.{numbered_more, where_ok}
 use Rattle.sj_main.proofs.reader.names.NameSet.declare.Goals as goal
 
-pub returns : goal.returns
-returns c = added_both (λ v. v.items) c.args.self.now.set.keys c.insert_full.new.self.keys c.in_ok-from_slice.field-0 c.args.name.now c.in_ok-added.added c.in_ok-from_slice.ensures.items c.in_ok-added.ensures.added c.in_ok-added.ensures.keys
+pub invariant_of-self-else-is_err : goal.invariant_of-self-else-is_err
+invariant_of-self-else-is_err c = record {
+  numbered = numbered_more c.args.self.now.names.items c.push.new.self.items c.args.self.now.numbers c.insert.new.self c.args.name c.len-number.result c.args.self.now.numbered (sym c.has.ensures ∙ c.if-has.false) (c.len-number.ensures ∙ c.args.self.now.names.ok.0) c.in_ok-push.ensures.items
+      (where_ok c.insert.result _ (sym c.is_err.ensures.value ∙ c.if-is_err.false) c.insert.ensures.updates);
+}

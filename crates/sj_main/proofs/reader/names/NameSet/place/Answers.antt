@@ -1,9 +1,6 @@
-use Rattle.std.proofs.Common.{sym, ◌∙◌}
-use Rattle.sj_main.proofs.ReadNames.{place_found, place_missing}
+use Rattle.std.proofs.Common.{◌∙◌}
+use Rattle.sj_main.proofs.ReadNames.{place_of}
 use Rattle.sj_main.proofs.reader.names.NameSet.place.Goals as goal
 
-pub returns-in_default : goal.returns-in_default
-returns-in_default c = place_missing (λ v. v.items) c.args.self.now.set.keys c.args.name.now (sym c.get_index_of.ensures.index ∙ c.in_default.is)
-
 pub returns : goal.returns
-returns c = place_found (λ v. v.items) c.args.self.now.set.keys c.args.name.now c.in-Some.index (sym c.get_index_of.ensures.index ∙ c.in-Some.is)
+returns c = place_of (λ n. n.now) c.args.self.now.names.items c.args.name.now c.copied.result (c.copied.ensures ∙ c.get.ensures.value ∙ c.args.self.now.numbered c.args.name.now)
