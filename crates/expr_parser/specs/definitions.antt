@@ -1,0 +1,2 @@
+-- What the parser promises is said in these terms.
+pub mod Longest

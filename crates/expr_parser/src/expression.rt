@@ -1,0 +1,338 @@
+ghost use Rattle.std.specs.Prelude.{◌≡◌, ◌<◌, ◌≤◌, [], ◌∷◌, MatchResult};
+ghost use Rattle.sj_grammar.specs.declared.role.Lead.TheVariants as lead;
+ghost use Rattle.sj_grammar.specs.definitions.Roles.{lead_of};
+ghost use Rattle.sj_grammar.specs.definitions.Machine.{Operand, More};
+ghost use Rattle.expr_parser.specs.Reading.{infix_level, NoKind, IsKindFront, ReadsOperand, ReadsFrom, Grows, FailsAt};
+
+use crate::front::{Stop, after, edge_at, infix_level, kind_at};
+use crate::tree::{atom_of, least_of, make_binary, make_cast, make_group, make_unary, name_of};
+use java_values::{Kind, Op1};
+use sj_ast::{Name, Raw};
+use sj_grammar::{Lead, infix_of, lead_of, level_of};
+use sj_lexer::{Class, Mark, Token};
+use std::alloc::Global;
+
+/// How many braces and parentheses may be open at once.
+pub const MOST_OPEN: u32 = 64;
+
+/// How many operators an expression or a test may have.
+pub const MOST_OPERATORS: u32 = 256;
+
+/// What was read, how many operators the expression has so far, and the tokens that are left.
+#[derive(Drop)]
+pub struct Read<'a> {
+    pub tree: Raw<Name>,
+    pub operators: u32,
+    pub rest: &'a [Token],
+}
+
+/// A literal or a variable.
+fn atom<'a>(
+    alloc: Global,
+    source: &[u8],
+    tokens: &'a [Token],
+    first: &Token,
+    rest: &'a [Token],
+    depth: u32,
+    operators: u32,
+) -> Result<Read<'a>, Stop<'a>>
+    requires is { tokens.now ≡ first.now ∷ rest.now }
+    requires role { lead_of first.now.class ≡ lead.Atom }
+    ensures { MatchResult result (λ r. ReadsOperand source.now tokens.now depth operators r.tree r.operators r.rest.now) (λ s. FailsAt (Operand ∷ []) tokens.now depth operators s) }
+{
+    match atom_of(alloc, source, first) {
+        Ok(tree) => Ok(Read {
+            tree,
+            operators,
+            rest,
+        }),
+        Err(_) => Err(Stop::NoMemory),
+    }
+}
+
+/// The name after a `#`.
+fn status<'a>(
+    alloc: Global,
+    source: &[u8],
+    tokens: &'a [Token],
+    first: &Token,
+    rest: &'a [Token],
+    depth: u32,
+    operators: u32,
+) -> Result<Read<'a>, Stop<'a>>
+    requires is { tokens.now ≡ first.now ∷ rest.now }
+    requires role { lead_of first.now.class ≡ lead.Hash }
+    ensures { MatchResult result (λ r. ReadsOperand source.now tokens.now depth operators r.tree r.operators r.rest.now) (λ s. FailsAt (Operand ∷ []) tokens.now depth operators s) }
+{
+    let Some(front) = after(rest, Class::Name) else {
+        return Err(Stop::Syntax(rest));
+    };
+    match name_of(alloc, source, &front.token) {
+        Ok(name) => Ok(Read {
+            tree: Raw::Status {
+                at: first.start,
+                name_at: front.token.start,
+                name,
+            },
+            operators,
+            rest: front.rest,
+        }),
+        Err(_) => Err(Stop::NoMemory),
+    }
+}
+
+/// The operand after an operator that isn't `-`.
+#[cycle(expressions)]
+fn prefix<'a>(
+    alloc: Global,
+    source: &[u8],
+    tokens: &'a [Token],
+    first: &Token,
+    op: Op1,
+    rest: &'a [Token],
+    depth: u32,
+    operators: u32,
+) -> Result<Read<'a>, Stop<'a>>
+    requires is { tokens.now ≡ first.now ∷ rest.now }
+    requires role { lead_of first.now.class ≡ lead.Prefix op }
+    ensures { MatchResult result (λ r. ReadsOperand source.now tokens.now depth operators r.tree r.operators r.rest.now) (λ s. FailsAt (Operand ∷ []) tokens.now depth operators s) }
+{
+    if operators >= MOST_OPERATORS {
+        return Err(Stop::TooDeep(tokens));
+    }
+    match operand(alloc, source, rest, depth, operators + 1) {
+        Ok(read) => match make_unary(alloc, first.start, op, read.tree) {
+            Ok(tree) => Ok(Read {
+                tree,
+                operators: read.operators,
+                rest: read.rest,
+            }),
+            Err(_) => Err(Stop::NoMemory),
+        },
+        Err(stop) => Err(stop),
+    }
+}
+
+/// The operand after a `-`, or the number after it that is none without it.
+#[cycle(expressions)]
+fn minus<'a>(
+    alloc: Global,
+    source: &[u8],
+    tokens: &'a [Token],
+    first: &Token,
+    rest: &'a [Token],
+    depth: u32,
+    operators: u32,
+) -> Result<Read<'a>, Stop<'a>>
+    requires is { tokens.now ≡ first.now ∷ rest.now }
+    requires role { lead_of first.now.class ≡ lead.Minus }
+    ensures { MatchResult result (λ r. ReadsOperand source.now tokens.now depth operators r.tree r.operators r.rest.now) (λ s. FailsAt (Operand ∷ []) tokens.now depth operators s) }
+{
+    if operators >= MOST_OPERATORS {
+        return Err(Stop::TooDeep(tokens));
+    }
+    if let Some(front) = edge_at(rest) {
+        return Ok(Read {
+            tree: Raw::Least {
+                at: first.start,
+                value: least_of(front.token.class),
+            },
+            operators: operators + 1,
+            rest: front.rest,
+        });
+    }
+    match operand(alloc, source, rest, depth, operators + 1) {
+        Ok(read) => match make_unary(alloc, first.start, Op1::Minus, read.tree) {
+            Ok(tree) => Ok(Read {
+                tree,
+                operators: read.operators,
+                rest: read.rest,
+            }),
+            Err(_) => Err(Stop::NoMemory),
+        },
+        Err(stop) => Err(stop),
+    }
+}
+
+/// The rest of a cast after its kind.
+#[cycle(expressions)]
+fn cast<'a>(
+    alloc: Global,
+    source: &[u8],
+    tokens: &'a [Token],
+    first: &Token,
+    inside: &'a [Token],
+    kind: Kind,
+    rest: &'a [Token],
+    depth: u32,
+    operators: u32,
+) -> Result<Read<'a>, Stop<'a>>
+    requires is { tokens.now ≡ first.now ∷ inside.now }
+    requires role { lead_of first.now.class ≡ lead.Open }
+    requires kind { IsKindFront inside.now kind rest.now }
+    requires within { depth < 64 }
+    ensures { MatchResult result (λ r. ReadsOperand source.now tokens.now depth operators r.tree r.operators r.rest.now) (λ s. FailsAt (Operand ∷ []) tokens.now depth operators s) }
+{
+    if operators >= MOST_OPERATORS {
+        return Err(Stop::TooDeep(tokens));
+    }
+    let Some(close) = after(rest, Class::Mark(Mark::CloseParen)) else {
+        return Err(Stop::Syntax(rest));
+    };
+    match operand(alloc, source, close.rest, depth, operators + 1) {
+        Ok(read) => match make_cast(alloc, first.start, kind, read.tree) {
+            Ok(tree) => Ok(Read {
+                tree,
+                operators: read.operators,
+                rest: read.rest,
+            }),
+            Err(_) => Err(Stop::NoMemory),
+        },
+        Err(stop) => Err(stop),
+    }
+}
+
+/// The rest of an expression in parentheses.
+#[cycle(expressions)]
+fn group<'a>(
+    alloc: Global,
+    source: &[u8],
+    tokens: &'a [Token],
+    first: &Token,
+    rest: &'a [Token],
+    depth: u32,
+    operators: u32,
+) -> Result<Read<'a>, Stop<'a>>
+    requires is { tokens.now ≡ first.now ∷ rest.now }
+    requires role { lead_of first.now.class ≡ lead.Open }
+    requires no_kind { NoKind rest.now }
+    requires within { depth < 64 }
+    ensures { MatchResult result (λ r. ReadsOperand source.now tokens.now depth operators r.tree r.operators r.rest.now) (λ s. FailsAt (Operand ∷ []) tokens.now depth operators s) }
+{
+    match expression(alloc, source, rest, 1, depth + 1, operators) {
+        Ok(read) => match after(read.rest, Class::Mark(Mark::CloseParen)) {
+            Some(close) => match make_group(alloc, first.start, read.tree) {
+                Ok(tree) => Ok(Read {
+                    tree,
+                    operators: read.operators,
+                    rest: close.rest,
+                }),
+                Err(_) => Err(Stop::NoMemory),
+            },
+            None => Err(Stop::Syntax(read.rest)),
+        },
+        Err(stop) => Err(stop),
+    }
+}
+
+/// A cast or an expression in parentheses.
+#[cycle(expressions)]
+fn opened<'a>(
+    alloc: Global,
+    source: &[u8],
+    tokens: &'a [Token],
+    first: &Token,
+    rest: &'a [Token],
+    depth: u32,
+    operators: u32,
+) -> Result<Read<'a>, Stop<'a>>
+    requires is { tokens.now ≡ first.now ∷ rest.now }
+    requires role { lead_of first.now.class ≡ lead.Open }
+    ensures { MatchResult result (λ r. ReadsOperand source.now tokens.now depth operators r.tree r.operators r.rest.now) (λ s. FailsAt (Operand ∷ []) tokens.now depth operators s) }
+{
+    if depth >= MOST_OPEN {
+        return Err(Stop::TooDeep(tokens));
+    }
+    match kind_at(rest) {
+        Some(front) => cast(
+            alloc, source, tokens, first, rest, front.kind, front.rest, depth, operators,
+        ),
+        None => group(alloc, source, tokens, first, rest, depth, operators),
+    }
+}
+
+/// The operand that the tokens begin with.
+#[cycle(expressions)]
+fn operand<'a>(
+    alloc: Global,
+    source: &[u8],
+    tokens: &'a [Token],
+    depth: u32,
+    operators: u32,
+) -> Result<Read<'a>, Stop<'a>>
+    ensures { MatchResult result (λ r. ReadsOperand source.now tokens.now depth operators r.tree r.operators r.rest.now) (λ s. FailsAt (Operand ∷ []) tokens.now depth operators s) }
+{
+    let Some((first, rest)) = tokens.split_first() else {
+        return Err(Stop::Syntax(tokens));
+    };
+    match lead_of(first.class) {
+        Lead::Atom => atom(alloc, source, tokens, first, rest, depth, operators),
+        Lead::Hash => status(alloc, source, tokens, first, rest, depth, operators),
+        Lead::Prefix(op) => prefix(alloc, source, tokens, first, op, rest, depth, operators),
+        Lead::Minus => minus(alloc, source, tokens, first, rest, depth, operators),
+        Lead::Open => opened(alloc, source, tokens, first, rest, depth, operators),
+        Lead::Nothing => Err(Stop::Syntax(tokens)),
+    }
+}
+
+/// The tree with the next operator and what is to its right.
+#[cycle(expressions)]
+fn grow<'a>(
+    alloc: Global,
+    source: &[u8],
+    tree: Raw<Name>,
+    tokens: &'a [Token],
+    depth: u32,
+    operators: u32,
+) -> Result<Read<'a>, Stop<'a>>
+    requires { 1 ≤ infix_level tokens.now }
+    ensures { MatchResult result (λ r. Grows source.now tokens.now depth operators tree r.tree r.operators r.rest.now) (λ s. FailsAt (More ∷ []) tokens.now depth operators s) }
+{
+    let Some((first, rest)) = tokens.split_first() else {
+        unreachable!()
+    };
+    let Some(op) = infix_of(first.class) else {
+        unreachable!()
+    };
+    if operators >= MOST_OPERATORS {
+        return Err(Stop::TooDeep(tokens));
+    }
+    match expression(alloc, source, rest, level_of(op) + 1, depth, operators + 1) {
+        Ok(right) => match make_binary(alloc, first.start, op, tree, right.tree) {
+            Ok(tree) => Ok(Read {
+                tree,
+                operators: right.operators,
+                rest: right.rest,
+            }),
+            Err(_) => Err(Stop::NoMemory),
+        },
+        Err(stop) => Err(stop),
+    }
+}
+
+/// The expression that the tokens begin with, as far as its operators have at least a level.
+#[cycle(expressions)]
+pub fn expression<'a>(
+    alloc: Global,
+    source: &[u8],
+    tokens: &'a [Token],
+    least: u32,
+    depth: u32,
+    operators: u32,
+) -> Result<Read<'a>, Stop<'a>>
+    requires low { 1 ≤ least }
+    requires high { least ≤ 11 }
+    ensures { MatchResult result (λ r. ReadsFrom source.now tokens.now depth operators least r.tree r.operators r.rest.now) (λ s. FailsAt (Operand ∷ More ∷ []) tokens.now depth operators s) }
+{
+    let mut read = match operand(alloc, source, tokens, depth, operators) {
+        Ok(read) => read,
+        Err(stop) => return Err(stop),
+    };
+    while infix_level(read.rest) >= least {
+        read = match grow(alloc, source, read.tree, read.rest, depth, read.operators) {
+            Ok(read) => read,
+            Err(stop) => return Err(stop),
+        };
+    }
+    Ok(read)
+}

@@ -1,0 +1,13 @@
+pub mod Classes
+pub mod Roles
+pub mod Insert
+pub mod Viable
+pub mod Printed
+pub mod PrintedStatements
+pub mod Exact
+pub mod Walks
+pub mod Tells
+pub mod OneTree
+pub mod Counting
+pub mod OneTest
+pub mod OneProgram

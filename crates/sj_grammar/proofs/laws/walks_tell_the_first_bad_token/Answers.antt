@@ -1,0 +1,5 @@
+use Rattle.sj_grammar.proofs.Tells.{tells}
+use Rattle.sj_grammar.proofs.laws.walks_tell_the_first_bad_token.Goals as goal
+
+pub returns : goal.returns
+returns c = tells

@@ -1,0 +1,6 @@
+mod Tables
+mod Values
+mod HeadLengths
+mod Lexing
+mod OneReading
+mod NameTexts

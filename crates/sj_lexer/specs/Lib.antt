@@ -1,0 +1,3 @@
+pub mod definitions
+pub mod Lexing
+pub mod Lengths

@@ -1,0 +1,5 @@
+use Rattle.stmt_parser.proofs.Going.{skips-combine}
+use Rattle.stmt_parser.proofs.pieces.combine_at.Goals as goal
+
+pub returns-in-None : goal.returns-in-None
+returns-in-None c = skips-combine c.args.tokens.now c.in-None.ensures

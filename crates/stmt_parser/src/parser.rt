@@ -1,0 +1,58 @@
+ghost use Rattle.std.specs.Prelude.{◌≡◌, ◌≤◌, length, MatchResult};
+ghost use Rattle.expr_parser.specs.definitions.Longest.{place_of};
+ghost use Rattle.stmt_parser.specs.definitions.Parsing.{IsTreeOf, IsNoProgram};
+ghost use Rattle.stmt_parser.specs.Reading.{Stops};
+
+use crate::program::read_program;
+use expr_parser::ParseError;
+use expr_parser::front::Stop;
+use sj_ast::{Name, Raw, Tree};
+use sj_lexer::Token;
+use std::alloc::Global;
+
+/// The program that all the tokens are.
+fn whole<'a>(
+    alloc: Global,
+    source: &[u8],
+    tokens: &'a [Token],
+) -> Result<Tree<Name, Raw<Name>>, Stop<'a>>
+    ensures { MatchResult result (λ t. IsTreeOf source.now tokens.now t) (λ s. Stops tokens.now s) }
+{
+    match read_program(alloc, source, tokens) {
+        Ok(read) => match read.rest {
+            [] => Ok(read.tree),
+            [_, ..] => Err(Stop::Syntax(read.rest)),
+        },
+        Err(stop) => Err(stop),
+    }
+}
+
+/// The place of the first of these tokens, or the end of the source.
+fn place_of(tokens: &[Token], source: &[u8]) -> u32
+    requires { length source.now ≤ 1048576 }
+    ensures { result ≡ place_of tokens.now (length source.now) }
+{
+    match tokens.split_first() {
+        Some((first, _)) => first.start,
+        None => source.len() as u32,
+    }
+}
+
+/// The tree of the program that the tokens of a source are. `Syntax` is at the first token such that the
+/// tokens up to and with it begin no program, and `TooDeep` at the first one that opens the 65th level or
+/// is the 257th operator of one expression or test.
+pub fn parse(
+    alloc: Global,
+    tokens: &[Token],
+    source: &[u8],
+) -> Result<Tree<Name, Raw<Name>>, ParseError>
+    requires { length source.now ≤ 1048576 }
+    ensures { MatchResult result (λ t. IsTreeOf source.now tokens.now t) (λ e. IsNoProgram source.now tokens.now e) }
+{
+    match whole(alloc, source, tokens) {
+        Ok(tree) => Ok(tree),
+        Err(Stop::Syntax(bad)) => Err(ParseError::Syntax(place_of(bad, source))),
+        Err(Stop::TooDeep(bad)) => Err(ParseError::TooDeep(place_of(bad, source))),
+        Err(Stop::NoMemory) => Err(ParseError::NoMemory),
+    }
+}
