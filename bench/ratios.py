@@ -1,0 +1,146 @@
+#!/usr/bin/env python3
+"""Times of `order` as ratios to a plain atomic increment on the same machine.
+
+usage: bench/ratios.py [PROGRAM]
+
+PROGRAM is the built program; without it, the one in crates/sj_main/out. Wants gcc. Each work is the same each
+time, and is done whole and a quarter of it: where both ratios are alike, the time grows linearly. A time is
+processor time of the whole command, with its output to /dev/null, and the least of five runs.
+
+- run: a pipeline of 15 domains, each of which receives from the one before it, emits a signal and sends to the
+  next one, up to the greatest run weight. Increments for each unit of the run weight.
+- make: 16 domains at the greatest weight of a domain, with no turn. Increments for each unit of the weight.
+- text: one domain with 1,024 signals of long names, all present in each tick. Increments for each byte.
+- loop: one domain with a loop of many statements, each fourth a pause, in many turns. Increments for each
+  statement and turn; the statements are what is cut to a quarter.
+"""
+import os
+import subprocess
+import sys
+import tempfile
+
+TOP = os.path.dirname(os.path.dirname(os.path.abspath(__file__)))
+PROGRAM = os.path.join(TOP, "crates", "sj_main", "out", "sj_main")
+RUNS = 5
+MOST_RUN_WEIGHT = 4_000_000
+MOST_WEIGHT = 100_000
+INCREMENTS = 50_000_000
+
+COUNTER = """
+int main(void) {
+    static unsigned long counter;
+    for (long i = 0; i < %d; i++)
+        __atomic_fetch_add(&counter, 1, __ATOMIC_SEQ_CST);
+    return counter == 0;
+}
+"""
+
+
+def measured(command):
+    """Of a command's run that takes the least of processor time: seconds, the system's part, megabytes."""
+    best = None
+    for _ in range(RUNS):
+        with open(os.devnull, "w", encoding="ascii") as nothing:
+            child = subprocess.Popen(command, stdout=nothing)
+            _, status, used = os.wait4(child.pid, 0)
+        if status:
+            sys.exit(f"{command}: status {os.waitstatus_to_exitcode(status)}")
+        took = used.ru_utime + used.ru_stime
+        if best is None or took < best[0]:
+            best = (took, used.ru_stime / took, used.ru_maxrss / 1024)
+    return best
+
+
+def system(ports, domains):
+    return "system{interface{" + "".join(ports) + "}" + "><".join(domains) + "}"
+
+
+def signal(name):
+    return f"output signal {name};"
+
+
+def run_work(part):
+    """Of each domain, rounds * 2; of each of the 28 ends, 2 * rounds + 1."""
+    domains = 15
+    most = (MOST_RUN_WEIGHT - 2 * (domains - 1)) // (domains * 2 + (domains - 1) * 4)
+    rounds = most // part
+    weight = domains * rounds * 2 + 2 * (domains - 1) * (2 * rounds + 1)
+
+    def stage(n):
+        take = f"receive C{n - 1};" if n > 0 else ""
+        give = f"send C{n}({n});" if n < domains - 1 else ""
+        return "{while(true){" + take + f"emit S{n};" + give + "}}"
+
+    ports = [signal(f"S{n}") for n in range(domains)]
+    ports += [f"int channel C{n};" for n in range(domains - 1)]
+    return system(ports, [stage(n) for n in range(domains)]), f"rr:{rounds}", weight
+
+
+def make_work(part):
+    """Each statement of the loop counts in the starting tick and in the resuming one."""
+    statements = (MOST_WEIGHT // part - 3) // 2
+    emissions = statements // 21
+    names = "ABCDEFGHIJKLMNOP"
+    domains = [
+        "{while(true){" + f"emit {name};" * emissions + ";" * (statements - emissions) + "pause;}}"
+        for name in names
+    ]
+    return system([signal(name) for name in names], domains), "-", len(names) * (2 * statements + 3)
+
+
+def text_work(part):
+    """Each tick has 1,024 names of 64 bytes, each after a space, and its number and stamp."""
+    names = [f"S{n:063d}" for n in range(1024)]
+    ticks = MOST_RUN_WEIGHT // (len(names) + 1) // part
+    body = "".join(f"emit {name};" for name in names)
+    source = system(map(signal, names), ["{while(true){" + body + "pause;}}"])
+    head = len(f"domain 0 ticks {ticks} paused\n")
+    lines = sum(len(f"{n} @{n}\n") + 65 * len(names) for n in range(1, ticks + 1))
+    return source, f"rr:{ticks}", head + lines
+
+
+def loop_work(part):
+    statements = 32_000 // part
+    turns = 8_000
+    body = "emit A;emit B;emit A;pause;" * (statements // 4)
+    source = system([signal("A"), signal("B")], ["{while(true){" + body + "}}"])
+    return source, f"rr:{turns}", statements * turns
+
+
+WORKS = (("run", "unit of run weight", run_work), ("make", "unit of weight", make_work))
+WORKS += (("text", "byte", text_work), ("loop", "statement and turn", loop_work))
+
+
+def increment(folder):
+    """Seconds for one increment."""
+    source = os.path.join(folder, "counter.c")
+    with open(source, "w", encoding="ascii") as out:
+        out.write(COUNTER % INCREMENTS)
+    built = os.path.join(folder, "counter")
+    subprocess.run(["gcc", "-O2", "-o", built, source], check=True)
+    return measured([built])[0] / INCREMENTS
+
+
+def main():
+    program = os.path.abspath(sys.argv[1]) if len(sys.argv) > 1 else PROGRAM
+    if not os.access(program, os.X_OK):
+        sys.exit(f"{program}: not built; bin/sievecape builds it")
+    with tempfile.TemporaryDirectory() as folder:
+        plain = increment(folder)
+        print(f"a plain atomic increment: {plain * 1e9:.2f} ns")
+        for name, unit, work in WORKS:
+            for part in (4, 1):
+                source, turns, units = work(part)
+                path = os.path.join(folder, "work.sysj")
+                with open(path, "w", encoding="ascii") as out:
+                    out.write(source)
+                took, system_part, held = measured([program, "order", path, turns, "-"])
+                each = took / units / plain
+                print(
+                    f"{name}  {took * 1000:7.1f} ms, {system_part:4.0%} system  {held:5.1f} MB  {units:11,d}"
+                    f"  {each:7.3f} increments for each {unit}"
+                )
+
+
+if __name__ == "__main__":
+    main()
