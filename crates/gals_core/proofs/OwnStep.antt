@@ -29,9 +29,9 @@ use Rattle.domain_core.proofs.lemmas.runs.WellFormedSystems.{system_joins}
 use Rattle.gals_core.specs.Channels.{ChannelsState, Moves, cell_in}
 use Rattle.gals_core.specs.Worlds.{IsInCells, own_side, pending, found_state, found_stamp}
 use Rattle.domain_core.proofs.lemmas.step.StateJoins.{ends_apart}
-use Rattle.gals_core.proofs.Answered.{waited, waits_unanswered}
-use Rattle.gals_core.proofs.Effects.{split, Recalled, Offered, all_recalled, all_offered, asked_cell}
-use Rattle.gals_core.proofs.AtChannel.{pending_at, stands_so}
+use Rattle.gals_core.proofs.EndAnswerLemmas.{waited, waits_unanswered}
+use Rattle.gals_core.proofs.CallEffects.{split, Recalled, Offered, all_recalled, all_offered, asked_cell}
+use Rattle.gals_core.proofs.ChannelOffers.{pending_at, stands_so}
 
 pub at_own : (v : DomainView) (system : System) (d : ℕ) → v.system ≡ system → v.domain ≡ d → (P : System → ℕ → Type 0) → P v.system v.domain → P system d
 at_own v system d qs qd P h = subst (λ z. P system z) qd (subst (λ z. P z v.domain) qs h)

@@ -9,7 +9,7 @@ use Rattle.kernel_terms.specs.Statements as rules
 use Rattle.kernel_terms.specs.MayEnd.{LoopsWait}
 use Rattle.domain_core.specs.step.SmallDomains.{IsPair, pure_domains}
 use Rattle.domain_core.specs.definitions.runs.Systems.{source_of}
-use Rattle.domain_core.specs.definitions.step.Built.{is_built}
+use Rattle.kernel_terms.specs.Built.{is_built}
 use Rattle.domain_core.specs.definitions.step.PureSignals.{HasPureOutputs}
 use Rattle.domain_core.specs.definitions.step.Compiling.{CanCompile}
 use Rattle.domain_core.proofs.lemmas.equations.PairTerms.{sending, pair_can_compile}

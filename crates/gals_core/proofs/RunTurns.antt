@@ -25,19 +25,19 @@ use Rattle.domain_core.specs.definitions.runs.LegalRuns.{Fits}
 use Rattle.domain_core.specs.definitions.runs.Scheduled.{IsScheduledRun}
 use Rattle.domain_core.proofs.lemmas.step.StateAnswers.{with_none}
 use Rattle.domain_core.proofs.lemmas.step.StampAnswers.{stamp_is_next}
-use Rattle.domain_core.proofs.lemmas.runs.Turns.{scheduled_by_step}
+use Rattle.domain_core.proofs.lemmas.runs.ScheduledTurns.{scheduled_by_step}
 use Rattle.kernel_terms.specs.Marks.{is_over}
 use Rattle.kernel_rules.specs.definitions.LegalTick.{no_inputs}
 use Rattle.domain_core.proofs.lemmas.step.StampAnswers.{all_raised}
 use Rattle.gals_core.specs.Channels.{ChannelsState, Moves, cell_in, history_in}
 use Rattle.gals_core.specs.Setups.{order_setup}
-use Rattle.gals_core.specs.Worlds.{own_side, pending, BeginsWith, StandsFor, IsNew}
+use Rattle.gals_core.specs.Worlds.{own_side, pending, RunBeginsWith, StandsFor, IsNew}
 use Rattle.domain_core.proofs.lemmas.step.StateJoins.{ends_apart}
-use Rattle.gals_core.proofs.Answered.{raised_same, answers_mark}
-use Rattle.gals_core.proofs.Effects.{split, all_recalled}
-use Rattle.gals_core.proofs.AtChannel.{pending_at, stands_so}
+use Rattle.gals_core.proofs.EndAnswerLemmas.{raised_same, answers_mark}
+use Rattle.gals_core.proofs.CallEffects.{split, all_recalled}
+use Rattle.gals_core.proofs.ChannelOffers.{pending_at, stands_so}
 use Rattle.gals_core.proofs.OwnStep.{OwnStep, own_step, ends_at, at_own, raised_none}
-use Rattle.gals_core.proofs.WholeTurn.{Begins, whole_turn}
+use Rattle.gals_core.proofs.TurnLemmas.{Begins, whole_turn}
 
 -- the turn of a domain that has ended
 pub skip_turn : (system : System) (turns rest : List ℕ) (d : ℕ) (view : ℕ → DomainView) (cell : ℕ → CellState) (rows : ℕ → List JoinRow) → d < domain_count (order_setup system) → is_over (view d).log.mark ≡ true →
@@ -69,7 +69,7 @@ pub at_end : (system : System) (turns : List ℕ) (view : ℕ → DomainView) (c
     ((d : ℕ) → (log_of r d).entries ≡ (view d).log.entries) → ((d : ℕ) → (log_of r d).mark ≡ (view d).log.mark) → ((c : ℕ) → history_of r c ≡ rows c) →
     IsScheduledRun (order_setup system) r turns w.s
 at_end system turns view cell rows r w fits entries marks histories =
-    let begins : BeginsWith r (λ d. (view d).log.entries) rows = record {
+    let begins : RunBeginsWith r (λ d. (view d).log.entries) rows = record {
       more_entries = λ d. [];
       more_rows = λ c. [];
       logs = λ d. entries d ∙ sym (append-nil (view d).log.entries);

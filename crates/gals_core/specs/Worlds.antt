@@ -61,7 +61,7 @@ abbrev pub found_stamp : System → ℕ → (ℕ → CellState) → DomainView �
 found_stamp system d cell v = raised (pending cell (ends_of (tables_of system) d)) (length (ends_of (tables_of system) d)) (max v.stamp (newest_of (tick_count_of v) v.joins))
 
 -- the run's logs and histories begin with these
-pub record BeginsWith (r : RunState) (entries : ℕ → List Entry) (rows : ℕ → List JoinRow) : Type 0 where
+pub record RunBeginsWith (r : RunState) (entries : ℕ → List Entry) (rows : ℕ → List JoinRow) : Type 0 where
   pub more_entries : ℕ → List Entry
   pub more_rows : ℕ → List JoinRow
   pub logs : (d : ℕ) → (log_of r d).entries ≡ entries d ++ more_entries d
@@ -78,7 +78,7 @@ pub record GoesOn (system : System) (turns left : List ℕ) (entries : ℕ → L
   pub j : ℕ → ℕ
   pub t_is : (d : ℕ) → t d ≡ length (entries d)
   pub j_is : (c : ℕ) → j c ≡ length (rows c)
-  pub completes : (r : RunState) (moves : List Move) (end : SystemState) → BeginsWith r entries rows → TakesTurns (order_setup system) s left moves end → TellsFrom r t j moves →
+  pub completes : (r : RunState) (moves : List Move) (end : SystemState) → RunBeginsWith r entries rows → TakesTurns (order_setup system) s left moves end → TellsFrom r t j moves →
       StampsFrom (order_setup system) r t j last since moves → EndsIn (order_setup system) r end → IsScheduledRun (order_setup system) r turns end
 
 -- The domains and the cells of the channels stand for a state of the system from which the turns that are left

@@ -99,7 +99,7 @@ fn two_domains(alloc: Global) -> Result<System, NoMemory>
     Ok(System::new(tables, Items::from_vec(domains)))
 }
 
-fn tell_pair(system: &System)
+fn both_can_compile(system: &System)
     requires { IsPair system.now }
     ensures count { length (domains_of system.now) ≡ 2 }
     ensures sending { CanCompile system.now 0 }
@@ -120,7 +120,7 @@ fn run_of(alloc: Global, system: &System, turns: &[u32]) -> Result<Run, Fail>
     Ok(run_order(system, plan, turns))
 }
 
-fn tell_fit(turns: &[u32])
+fn turns_fit_budgets(turns: &[u32])
     requires { turns.now ≡ 0 ∷ 1 ∷ 0 ∷ 1 ∷ 0 ∷ [] }
     ensures { FitBudgets (3 ∷ 2 ∷ []) turns.now }
 {}
@@ -129,9 +129,9 @@ fn tell_fit(turns: &[u32])
 #[test]
 fn one_rendezvous(rt: HostRuntime) -> Result<(), Fail> {
     let system = two_domains(rt.alloc())?;
-    tell_pair(&system);
+    both_can_compile(&system);
     let turns = [0, 1, 0, 1, 0];
-    tell_fit(&turns);
+    turns_fit_budgets(&turns);
     let run = run_of(rt.alloc(), &system, &turns)?;
     for log in &run.domains {
         assert_eq!(rt; log.signals(), 1);

@@ -16,7 +16,7 @@ use Rattle.kernel_rules.specs.ShownTicks.{OnlyLogs, absent, absent_with, present
 use Rattle.kernel_rules.specs.Worked.Domains
 use Rattle.kernel_rules.specs.Worked.Words.{emit}
 use Rattle.kernel_rules.proofs.RowLemmas.{Given, plain, logs}
-use Rattle.kernel_rules.proofs.LogsAlone.{tried_in, last_state, only_logs}
+use Rattle.kernel_rules.proofs.OneLogLemmas.{tried_in, last_state, only_logs}
 
 -- a tick in which the status of one signal alone is read, from the state after these ticks
 abbrev read_after : Tables → Inputs → Stmt → List Given → Status → Tick

@@ -1,19 +1,19 @@
-mod Booleans
-mod Evaluation
-pub mod Alone
-pub mod Showing
-pub mod LogsAlone
+mod BooleanLemmas
+mod TickTrials
+pub mod OneTickLemmas
+pub mod SeenTicks
+pub mod OneLogLemmas
 pub mod DomainRows
-pub mod RowsAlone
-pub mod Reading
-pub mod Codes
-pub mod Leaving
-mod Residues
-pub mod Combining
-pub mod Folding
+pub mod OneLogRows
+pub mod InputReadingLemmas
+pub mod CompletionCodes
+pub mod TickLocalityLemmas
+mod ModulusLemmas
+pub mod CombinationLemmas
+pub mod EmissionLemmas
 pub mod RowLemmas
 pub mod RowRefusals
-pub mod Starting
-pub mod Resuming
-pub mod Mentioning
-pub mod Hiding
+pub mod StartingTicks
+pub mod ResumingTicks
+pub mod ResidualNames
+pub mod LocalEmissionLemmas

@@ -14,8 +14,8 @@ use Rattle.kernel_rules.specs.definitions.LegalTick.{DomainState, Inputs, IsLega
 use Rattle.kernel_rules.specs.Rows
 use Rattle.kernel_rules.specs.Rows.{Logs, MakesTicks, at_start, first_signal_at, on, off, with}
 use Rattle.kernel_rules.specs.definitions.LegalTick.{no_inputs}
-use Rattle.kernel_rules.proofs.Booleans.{left_of, right_of}
-use Rattle.kernel_rules.proofs.Evaluation.{Trial, trial, trial_ticks, same_bool, equal_bools}
+use Rattle.kernel_rules.proofs.BooleanLemmas.{left_of, right_of}
+use Rattle.kernel_rules.proofs.TickTrials.{Trial, trial, trial_ticks, same_bool, equal_bools}
 
 abbrev pub absent : Status
 absent = record { present = false; value = pos 0 }

@@ -1,5 +1,6 @@
 pub mod Expressions
 pub mod Statements
+pub mod Built
 pub mod TableEntries
 pub mod MayEnd
 pub mod Marks

@@ -5,7 +5,7 @@ use Rattle.std.proofs.lemmas.Slice.{take-put_mid, between_is}
 use Rattle.std.proofs.Math.Seq.{take-add}
 use Rattle.std.specs.Prelude.{Option, Some, None}
 use Rattle.sj_io.specs.Sinks.{TakesMore}
-use Rattle.sj_io.specs.Gathers.{Gathers, GathersFront}
+use Rattle.sj_io.specs.Gathers.{Gathers, GathersPrefix}
 use borrow.Rule.Slice.PartMut.{put_mid}
 
 -- a copy into the buffer from `to` on
@@ -69,9 +69,9 @@ gathers_on a b c u v w w' xs i n g h e =
     subst (λ l. Gathers a c u l (take (i + n) xs)) (sym more) (subst (λ l. Gathers a c u (w ++ y) l) all (gathers_both a c c u w (w ++ y) (take i xs) y handed (gathers_kept c w y)))
 
 -- the sink fails after the first bytes of a text
-pub gathers_front : (a b c : Option (List ℕ)) (u v w xs : List ℕ) (i : ℕ) → Gathers a b u v (take i xs) → Gathers b c v w [] → GathersFront a c u w xs
-gathers_front a b c u v w xs i g h = record { count = i; gathers = subst (λ l. Gathers a c u w l) (append-nil (take i xs)) (gathers_both a b c u v w (take i xs) [] g h) }
+pub gathers_prefix : (a b c : Option (List ℕ)) (u v w xs : List ℕ) (i : ℕ) → Gathers a b u v (take i xs) → Gathers b c v w [] → GathersPrefix a c u w xs
+gathers_prefix a b c u v w xs i g h = record { count = i; gathers = subst (λ l. Gathers a c u w l) (append-nil (take i xs)) (gathers_both a b c u v w (take i xs) [] g h) }
 
 pub ruleset flush_steps = (gathers_nothing, gathers_taken, gathers_all)
 
-pub ruleset put_steps = (gathers_nothing, gathers_on, gathers_front)
+pub ruleset put_steps = (gathers_nothing, gathers_on, gathers_prefix)

@@ -29,11 +29,11 @@ pub takes_on : (a b c : Option (List ℕ)) (xs : List ℕ) (i n : ℕ) → Takes
 takes_on None b c xs i n h t = tt
 takes_on (Some old) b c xs i n h t = more b c old (take i xs) (take n (drop i xs)) (take (i + n) xs) (take_more i n xs) h t
 
--- a copied front of a buffer
+-- a copied prefix of a buffer
 pub copies : (all buf buf2 : List ℕ) (at start n piece : ℕ) → start ≡ min (length all) at → n ≡ min (min (length buf) piece) (length all - start) → 1 ≤ piece → length buf2 ≡ length buf → take n buf2 ≡ take n (drop start all) → ReadsAt all at n buf2
-copies all buf buf2 at start n piece s c p len h = record { bytes = front; within = omega (arith, length-drop at all); end = λ z one. omega arith } where
-  front : take n buf2 ≡ take n (drop at all)
-  front = elim (cases_lt at (length all)) [
+copies all buf buf2 at start n piece s c p len h = record { bytes = prefix_is; within = omega (arith, length-drop at all); end = λ z one. omega arith } where
+  prefix_is : take n buf2 ≡ take n (drop at all)
+  prefix_is = elim (cases_lt at (length all)) [
     | inl lt ↦ (let e : start ≡ at = omega arith in h ∙ ap (λ k. take n (drop k all)) e)
     | inr le ↦ (let z : n ≡ 0 = omega arith in ap (λ k. take k buf2) z ∙ sym (ap (λ k. take k (drop at all)) z))
   ]

@@ -12,7 +12,7 @@ pub record Gathers (old new : Option (List ℕ)) (waits waits' bytes : List ℕ)
   pub takes : TakesMore old new part
   pub split : part ++ waits' ≡ waits ++ bytes
 
--- the same, with a front of these bytes
-pub record GathersFront (old new : Option (List ℕ)) (waits waits' bytes : List ℕ) : Type 0 where
+-- the same, with a prefix of these bytes
+pub record GathersPrefix (old new : Option (List ℕ)) (waits waits' bytes : List ℕ) : Type 0 where
   pub count : ℕ
   pub gathers : Gathers old new waits waits' (take count bytes)

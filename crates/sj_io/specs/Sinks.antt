@@ -12,7 +12,7 @@ abbrev pub Takes : Option (List ℕ) → Option (List ℕ) → Result ℕ Failed
 Takes old new (Ok n) buf = TakesMore old new (take n buf)
 Takes old new (Err _) buf = TakesMore old new []
 
--- it has taken a front of these bytes more
-pub record TakesFront (old new : Option (List ℕ)) (bytes : List ℕ) : Type 0 where
+-- it has taken a prefix of these bytes more
+pub record TakesPrefix (old new : Option (List ℕ)) (bytes : List ℕ) : Type 0 where
   pub count : ℕ
   pub takes : TakesMore old new (take count bytes)

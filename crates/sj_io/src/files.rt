@@ -28,5 +28,5 @@ pub trait Files {
         ensures later { (other : List ℕ) → faults self.old other ≤ faults self.new other }
         ensures apart { (other : List ℕ) → CountsApart (known self.old) name.now other → faults self.new other ≡ faults self.old other }
         ensures cause { OnErr result (Rose (faults self.old name.now) (faults self.new name.now)) }
-        ensures calm { OnOk result (CountsStay (faults self.old) (faults self.new)) };
+        ensures counts_stay { OnOk result (CountsStay (faults self.old) (faults self.new)) };
 }

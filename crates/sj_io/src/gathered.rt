@@ -19,7 +19,7 @@ pub struct Gathered {
 }
 
 impl Gathered {
-    ghost use Rattle.sj_io.specs.Gathers.{waiting, Gathers, GathersFront};
+    ghost use Rattle.sj_io.specs.Gathers.{waiting, Gathers, GathersPrefix};
 
     /// No byte waits.
     pub fn new() -> Gathered
@@ -60,11 +60,11 @@ impl Gathered {
     }
 
     /// Puts the bytes behind those that wait. Where the room is used up, the sink takes what waits.
-    /// After a `Fault` a front of the bytes was put, and no byte is lost.
+    /// After a `Fault` a prefix of the bytes was put, and no byte is lost.
     #[tactic(auto, using(crate::proofs::Gathering::put_steps))]
     pub fn put<K: Sink>(&mut self, out: &mut K, bytes: &[u8]) -> Result<(), WriteError>
         ensures ok { OnOk result (Gathers (K.taken out.old) (K.taken out.new) (waiting self.old) (waiting self.new) bytes.now) }
-        ensures front { OnErr result (GathersFront (K.taken out.old) (K.taken out.new) (waiting self.old) (waiting self.new) bytes.now) }
+        ensures puts_prefix { OnErr result (GathersPrefix (K.taken out.old) (K.taken out.new) (waiting self.old) (waiting self.new) bytes.now) }
         ensures cause { OnErr result (Rose (K.faults out.old) (K.faults out.new)) }
         ensures later { K.faults out.old ≤ K.faults out.new }
     {
@@ -78,7 +78,7 @@ impl Gathered {
         Ok(())
     }
 
-    /// Has the sink take all that waits. After a `Fault` it has taken a front of it, and the rest waits.
+    /// Has the sink take all that waits. After a `Fault` it has taken a prefix of it, and the rest waits.
     #[tactic(auto, using(crate::proofs::Gathering::flush_steps))]
     pub fn flush<K: Sink>(&mut self, out: &mut K) -> Result<(), WriteError>
         ensures room { OnOk result (self.new.to ≡ 0) }

@@ -130,7 +130,7 @@ impl Files for MemFiles {
         ensures later { (other : List ℕ) → mem_faults self.old other ≤ mem_faults self.new other }
         ensures apart { (other : List ℕ) → CountsApart (mem_known self.old) name.now other → mem_faults self.new other ≡ mem_faults self.old other }
         ensures cause { OnErr result (Rose (mem_faults self.old name.now) (mem_faults self.new name.now)) }
-        ensures calm { OnOk result (CountsStay (mem_faults self.old) (mem_faults self.new)) }
+        ensures counts_stay { OnOk result (CountsStay (mem_faults self.old) (mem_faults self.new)) }
 
         // It fails exactly where it is told to, and else gives as much as it may.
         ensures exact { is_err result ≡ mem_fails self.old name.now }

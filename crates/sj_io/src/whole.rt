@@ -3,7 +3,7 @@
 ghost use Rattle.std.specs.Prelude.{◌≡◌, ◌+◌, ◌≤◌, ◌<◌, length, take, IfOk, IfSome, OnOk, OnErr, IsErrOf, vec_len};
 ghost use Rattle.sj_io.specs.Causes.{Rose};
 ghost use Rattle.sj_io.specs.Files.{CountsStay, Keeps};
-ghost use Rattle.sj_io.specs.Sinks.{TakesMore, TakesFront};
+ghost use Rattle.sj_io.specs.Sinks.{TakesMore, TakesPrefix};
 
 use crate::files::Files;
 use crate::sink::Sink;
@@ -40,7 +40,7 @@ fn read_piece<F: Files>(
 ) -> Result<usize, ReadError>
     ensures known { F.known files.new ≡ F.known files.old }
     ensures cause { IsErrOf result ReadError.Fault → Rose (F.faults files.old name.now) (F.faults files.new name.now) }
-    ensures calm { (IsErrOf result ReadError.Fault → ⊥) → CountsStay (F.faults files.old) (F.faults files.new) }
+    ensures counts_stay { (IsErrOf result ReadError.Fault → ⊥) → CountsStay (F.faults files.old) (F.faults files.new) }
     ensures keeps { Keeps (F.known files.old) (F.told files.old) (F.told files.new) (F.faults files.old) (F.faults files.new) name.now }
     ensures not_big { IsErrOf result ReadError.TooBig → ⊥ }
     ensures size { IfOk result (λ n. (n ≤ length piece.new) × (vec_len bytes.new ≡ vec_len bytes.old + n)) }
@@ -73,7 +73,7 @@ pub fn read_all<F: Files>(
     ensures limit { IfOk result (λ v. vec_len v ≤ limit) }
     ensures too_big { IsErrOf result ReadError.TooBig → IfSome (F.told files.old name.now) (λ all. limit < length all) }
     ensures cause { IsErrOf result ReadError.Fault → Rose (F.faults files.old name.now) (F.faults files.new name.now) }
-    ensures calm { (IsErrOf result ReadError.Fault → ⊥) → CountsStay (F.faults files.old) (F.faults files.new) }
+    ensures counts_stay { (IsErrOf result ReadError.Fault → ⊥) → CountsStay (F.faults files.old) (F.faults files.new) }
     ensures known { F.known files.new ≡ F.known files.old }
     ensures keeps { Keeps (F.known files.old) (F.told files.old) (F.told files.new) (F.faults files.old) (F.faults files.new) name.now }
 {
@@ -89,11 +89,11 @@ pub fn read_all<F: Files>(
 }
 
 /// Writes all the bytes, in as many calls as the sink asks for. After a `Fault` the sink has taken a
-/// front of them, and its count rose.
+/// prefix of them, and its count rose.
 #[tactic(auto, using(crate::proofs::Pieces::takes_on))]
 pub fn write_all<K: Sink>(out: &mut K, bytes: &[u8]) -> Result<(), WriteError>
     ensures ok { OnOk result (TakesMore (K.taken out.old) (K.taken out.new) bytes.now) }
-    ensures front { OnErr result (TakesFront (K.taken out.old) (K.taken out.new) bytes.now) }
+    ensures takes_prefix { OnErr result (TakesPrefix (K.taken out.old) (K.taken out.new) bytes.now) }
     ensures cause { OnErr result (Rose (K.faults out.old) (K.faults out.new)) }
     ensures later { K.faults out.old ≤ K.faults out.new }
 {

@@ -1,8 +1,8 @@
-pub mod Statuses
-pub mod Entries
-pub mod Texts
-pub mod Adding
-pub mod Interfaces
-pub mod Few
-pub mod Lines
+pub mod StatusLemmas
+pub mod LogEntryLemmas
+pub mod JoinedTexts
+pub mod PrinterTexts
+pub mod InterfaceSignals
+pub mod SignalCountLemmas
+pub mod LineTexts
 pub mod LongLogs

@@ -126,7 +126,7 @@ impl Log {
 }
 
 // Adds the statuses of one tick, into memory that is there already.
-#[tactic(auto, using(crate::proofs::Statuses::status_steps))]
+#[tactic(auto, using(crate::proofs::StatusLemmas::status_steps))]
 fn append(statuses: &mut Vec<Option<i64>>, present: &[bool], values: &[i64])
     requires same { length present.now ≡ length values.now }
     requires room { vec_len statuses.old + length present.now ≤ vec_capacity statuses.old }

@@ -52,7 +52,7 @@ impl Printer {
     }
 
     /// Has the sink take what waits, unless it has failed.
-    #[tactic(auto, using(crate::proofs::Adding::flush_steps))]
+    #[tactic(auto, using(crate::proofs::PrinterTexts::flush_steps))]
     pub fn finish<K: Sink>(&mut self, out: &mut K) -> Result<(), WriteError>
         ensures prints { Prints K.taken K.faults self.old self.new out.old out.new [] }
         ensures all { OnOk result (waiting self.new.gathered ≡ []) }

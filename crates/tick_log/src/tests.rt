@@ -316,7 +316,7 @@ fn one_rendezvous(rt: HostRuntime) -> Result<(), Fail> {
 
 // Prints a run of one tick to a sink that takes so many bytes a call, of which this call fails, and
 // answers what the sink holds then.
-fn front_at(alloc: Global, piece: usize, call: u64) -> Result<Vec<u8>, NoMemory>
+fn prefix_at(alloc: Global, piece: usize, call: u64) -> Result<Vec<u8>, NoMemory>
     requires { 1 ≤ piece }
 {
     let system = one_signal(alloc)?;
@@ -332,13 +332,16 @@ fn front_at(alloc: Global, piece: usize, call: u64) -> Result<Vec<u8>, NoMemory>
 }
 
 #[test]
-fn a_failed_call_leaves_a_front_of_the_text(rt: HostRuntime) -> Result<(), Fail> {
+fn a_failed_call_leaves_a_prefix_of_the_text(rt: HostRuntime) -> Result<(), Fail> {
     let alloc = rt.alloc();
-    assert_eq!(rt; front_at(alloc, 1, 1)?.as_slice(), b"".as_slice());
-    assert_eq!(rt; front_at(alloc, 1, 2)?.as_slice(), b"d".as_slice());
-    assert_eq!(rt; front_at(alloc, 5, 3)?.as_slice(), b"domain 0 t".as_slice());
+    assert_eq!(rt; prefix_at(alloc, 1, 1)?.as_slice(), b"".as_slice());
+    assert_eq!(rt; prefix_at(alloc, 1, 2)?.as_slice(), b"d".as_slice());
     assert_eq!(rt;
-        front_at(alloc, 5, 6)?.as_slice(),
+        prefix_at(alloc, 5, 3)?.as_slice(),
+        b"domain 0 t".as_slice()
+    );
+    assert_eq!(rt;
+        prefix_at(alloc, 5, 6)?.as_slice(),
         b"domain 0 ticks 1 ended\n1 ".as_slice()
     );
     Ok(())

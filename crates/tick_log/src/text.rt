@@ -6,7 +6,7 @@ ghost use Rattle.std.specs.Fmt.{signed_decimal};
 ghost use Rattle.kernel_terms.specs.Systems.{tables_of};
 ghost use Rattle.kernel_terms.specs.TableEntries.{is_local, is_interface_of, interface_of, signal_at};
 ghost use Rattle.sj_io.specs.Causes.{Rose};
-ghost use Rattle.sj_io.specs.Sinks.{TakesMore, TakesFront};
+ghost use Rattle.sj_io.specs.Sinks.{TakesMore, TakesPrefix};
 ghost use Rattle.kernel_terms.specs.Limits.{most_signals};
 ghost use Rattle.tick_log.specs.Prints.{Prints};
 ghost use Rattle.kernel_terms.specs.Marks.{Mark, is_over};
@@ -30,13 +30,13 @@ const MOST_SIGNALS: usize = 1024;
 /// and then a line for each tick with its number, its stamp and the interface signals that were
 /// present, with the values of the valued ones. For each channel a line with its name and its joins,
 /// and then a line for each join with its number, its value, the ticks that the sender and the
-/// receiver had made, and its stamp. `Fault` says that the sink failed; it has then taken a front of
+/// receiver had made, and its stamp. `Fault` says that the sink failed; it has then taken a prefix of
 /// the text.
-#[tactic(auto, using(crate::proofs::Adding::print_steps))]
+#[tactic(auto, using(crate::proofs::PrinterTexts::print_steps))]
 pub fn print<K: Sink>(run: &Run, system: &System, out: &mut K) -> Result<(), WriteError>
     requires { HoldsRun system.now run.now }
     ensures ok { OnOk result (TakesMore (K.taken out.old) (K.taken out.new) (run_text (tables_of system.now) (run_state run.now))) }
-    ensures front { OnErr result (TakesFront (K.taken out.old) (K.taken out.new) (run_text (tables_of system.now) (run_state run.now))) }
+    ensures takes_prefix { OnErr result (TakesPrefix (K.taken out.old) (K.taken out.new) (run_text (tables_of system.now) (run_state run.now))) }
     ensures cause { OnErr result (Rose (K.faults out.old) (K.faults out.new)) }
     ensures later { K.faults out.old ≤ K.faults out.new }
 {
@@ -53,7 +53,7 @@ fn put_run<K: Sink>(printer: &mut Printer, out: &mut K, run: &Run, system: &Syst
     put_channels(printer, out, run, system);
 }
 
-#[tactic(auto, using(crate::proofs::Lines::domain_steps))]
+#[tactic(auto, using(crate::proofs::LineTexts::domain_steps))]
 fn put_domains<K: Sink>(printer: &mut Printer, out: &mut K, run: &Run, system: &System)
     requires { HoldsRun system.now run.now }
     ensures { Prints K.taken K.faults printer.old printer.new out.old out.new (text_of_lines (domain_lines (tables_of system.now) 0 (run_state run.now).logs)) }
@@ -75,7 +75,7 @@ fn put_domain<K: Sink>(printer: &mut Printer, out: &mut K, tables: &Tables, doma
 }
 
 // Lists the numbers of the domain's interface signals, and answers how many there are.
-#[tactic(auto, using(crate::proofs::Interfaces::list_steps))]
+#[tactic(auto, using(crate::proofs::InterfaceSignals::list_steps))]
 fn list_interface(tables: &Tables, domain: u64, numbers: &mut [usize]) -> usize
     requires { length (interface_of tables.now domain) ≤ length numbers.old }
     ensures within { result ≤ length numbers.new }
@@ -129,7 +129,7 @@ fn put_word<K: Sink>(printer: &mut Printer, out: &mut K, ended: bool)
     }
 }
 
-#[tactic(auto, using(crate::proofs::Lines::tick_steps))]
+#[tactic(auto, using(crate::proofs::LineTexts::tick_steps))]
 fn put_ticks<K: Sink>(printer: &mut Printer, out: &mut K, tables: &Tables, own: &[usize], log: &Log)
     requires signals { log.now.signals ≡ length own.now }
     requires known { All (λ n. n < length tables.now.signals) own.now }
@@ -162,7 +162,7 @@ fn put_tick<K: Sink>(
 }
 
 // The signals of these numbers that were present. The log has their statuses in this order.
-#[tactic(auto, using(crate::proofs::Lines::signal_steps))]
+#[tactic(auto, using(crate::proofs::LineTexts::signal_steps))]
 fn put_signals<K: Sink>(
     printer: &mut Printer,
     out: &mut K,
@@ -183,7 +183,7 @@ fn put_signals<K: Sink>(
     }
 }
 
-#[tactic(auto, using(crate::proofs::Adding::put_steps))]
+#[tactic(auto, using(crate::proofs::PrinterTexts::put_steps))]
 fn put_signal<K: Sink>(printer: &mut Printer, out: &mut K, signal: &SignalInfo, status: Option<i64>)
     ensures { Prints K.taken K.faults printer.old printer.new out.old out.new (signal_text signal.now status) }
 {
@@ -202,7 +202,7 @@ fn put_present<K: Sink>(printer: &mut Printer, out: &mut K, signal: &SignalInfo,
     put_part(printer, out, signal.kind, value);
 }
 
-#[tactic(auto, using(crate::proofs::Adding::put_steps))]
+#[tactic(auto, using(crate::proofs::PrinterTexts::put_steps))]
 fn put_part<K: Sink>(printer: &mut Printer, out: &mut K, kind: Option<Kind>, value: i64)
     ensures { Prints K.taken K.faults printer.old printer.new out.old out.new (value_part kind value) }
 {
@@ -241,7 +241,7 @@ fn put_truth<K: Sink>(printer: &mut Printer, out: &mut K, truth: bool)
     }
 }
 
-#[tactic(auto, using(crate::proofs::Lines::channel_steps))]
+#[tactic(auto, using(crate::proofs::LineTexts::channel_steps))]
 fn put_channels<K: Sink>(printer: &mut Printer, out: &mut K, run: &Run, system: &System)
     requires { HoldsRun system.now run.now }
     ensures { Prints K.taken K.faults printer.old printer.new out.old out.new (text_of_lines (channel_lines (tables_of system.now) 0 (run_state run.now).histories)) }
@@ -280,7 +280,7 @@ fn put_channel_head<K: Sink>(
     printer.put(out, b"\n");
 }
 
-#[tactic(auto, using(crate::proofs::Lines::join_steps))]
+#[tactic(auto, using(crate::proofs::LineTexts::join_steps))]
 fn put_joins<K: Sink>(printer: &mut Printer, out: &mut K, kind: Kind, history: &History)
     ensures { Prints K.taken K.faults printer.old printer.new out.old out.new (text_of_lines (join_lines kind 1 history.now.rows)) }
 {

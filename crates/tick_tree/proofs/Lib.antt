@@ -1,13 +1,13 @@
-pub mod Weighing
-pub mod Layers
-pub mod Lists
+pub mod TreeWeights
+pub mod StatementLayers
+pub mod PartLists
 pub mod WayLemmas
-pub mod Found
-pub mod Fitting
-pub mod Places
-pub mod Numbers
-pub mod Counting
-pub mod Signals
+pub mod PartWalks
+pub mod ExitFitLemmas
+pub mod PlaceLemmas
+pub mod LeafNumbers
+pub mod LeafPlaces
+pub mod SignalNumbers
 pub mod RowLemmas
 pub mod TermRows
-mod Ranks
+mod LeafRanks

@@ -21,7 +21,7 @@ use Rattle.tick_tree.specs.definitions.Shapes.{starting_shape, resuming_shape}
 use Rattle.tick_tree.specs.definitions.Trees.{tree_of, tree_of_some, place_in, starting_tree, resuming_tree}
 use Rattle.tick_tree.specs.definitions.Precedence.{IsCausal, IsCausalIf, HasCausalTrees}
 use Rattle.tick_tree.specs.Rows.{term_at, testing_term, beside_term, beside_term_started, beside_term_resumed, sees_beside}
-use Rattle.tick_tree.proofs.Layers.{statement-Emit, statement-Present, statement-Par}
+use Rattle.tick_tree.proofs.StatementLayers.{statement-Emit, statement-Present, statement-Par}
 use Rattle.tick_tree.proofs.RowLemmas.{beside-causal, beside-resumed}
 
 abbrev places_of_form : Form → ℕ → List ℕ

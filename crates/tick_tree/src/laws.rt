@@ -1,6 +1,6 @@
 // Laws on trees and weights. Their functions do nothing.
 
-ghost use Rattle.std.specs.Prelude.{◌≡◌, ◌<◌, ℕ, true, is_some, length, map, slice_index_or};
+ghost use Rattle.std.specs.Prelude.{◌≡◌, ◌<◌, ℕ, true, is_some, length, map};
 ghost use Rattle.std.specs.List.{list_all};
 ghost use Rattle.kernel_terms.specs.declared.tables.Tables.{Tables};
 ghost use Rattle.kernel_terms.specs.declared.system.System.{System};
@@ -19,8 +19,6 @@ ghost use Rattle.tick_tree.specs.Measures.{starting_weight, resuming_weight};
 ghost use Rattle.tick_tree.specs.definitions.Exits.{exits_fit};
 ghost use Rattle.tick_tree.specs.Laws.{numbers_from, leaf_numbers, without_places, without_places_of_some};
 
-use kernel_terms::{System, Term};
-
 /// A statement that keeps the rules of a system exits to depths below the limit alone.
 pub fn program_exits_fit()
     ensures { (t : Tables) (scope : Scope) (p : Stmt) → fits_statement t scope p ≡ true → exits_fit p ≡ true }
@@ -29,13 +27,6 @@ pub fn program_exits_fit()
 /// So do the statements of the domains of a system.
 pub fn system_exits_fit()
     ensures { (s : System) → list_all exits_fit (map statement (domains_of s)) ≡ true }
-{}
-
-/// The exits of a domain's term fit, as the walks over terms need it.
-pub fn tell_domain(system: &System, d: usize, domain: &Term)
-    requires within { d < length (domains_of system.now) }
-    requires domain { domain.now ≡ slice_index_or (domains_of system.now) d domain.now }
-    ensures { exits_fit (statement domain.now) ≡ true }
 {}
 
 /// There is a resuming tree exactly where a statement does something in a later tick.

@@ -10,12 +10,12 @@ mod rows;
 pub use laws::{
     counts_are_those_without_places, interface_signals_come_before_copies,
     leaves_are_numbered_from_the_left, leaves_have_places, places_change_no_tree,
-    program_exits_fit, resuming_trees_where_something_resumes, system_exits_fit, tell_domain,
+    program_exits_fit, resuming_trees_where_something_resumes, system_exits_fit,
     weights_are_those_without_places,
 };
 pub use measure::{ends0, ends1, weight};
 pub use parts::{
-    tell_abort, tell_first, tell_if, tell_parallel, tell_present, tell_sequence, tell_suspend,
+    first_part_fits, if_parts_fit, parallel_parts_fit, present_parts_fit, sequence_parts_fit,
 };
 pub use rows::{
     alternatives_have_no_order, branches_that_see_each_other, emission_beside_its_test,

@@ -14,7 +14,9 @@ ghost use Rattle.tick_tree.specs.definitions.Exits.{exits_fit};
 ghost use Rattle.tick_tree.specs.definitions.Weight.{capped};
 
 use crate::nodes::{of_expression, of_test, of_value, sum};
-use crate::parts::{tell_first, tell_if, tell_parallel, tell_present, tell_sequence};
+use crate::parts::{
+    first_part_fits, if_parts_fit, parallel_parts_fit, present_parts_fit, sequence_parts_fit,
+};
 use kernel_terms::{Form, Term};
 
 /// Whether the statement may end in the tick, and which traps it may exit to: a bit for each depth.
@@ -78,23 +80,23 @@ fn measured(term: &Term) -> Measure
         Form::Assign { value, .. } => at_once(of_expression(value)),
         Form::If { cond, yes, other } => {
             let (yes, other) = (yes.get(), other.get());
-            tell_if(term, cond, yes, other);
+            if_parts_fit(term, cond, yes, other);
             either(of_expression(cond), measured(yes), measured(other))
         }
         Form::Present { test, yes, other } => {
             let (yes, other) = (yes.get(), other.get());
-            tell_present(term, test, yes, other);
+            present_parts_fit(term, test, yes, other);
             either(of_test(test), measured(yes), measured(other))
         }
         Form::Seq(parts) => {
             let parts = parts.as_slice();
-            tell_sequence(term, parts);
+            sequence_parts_fit(term, parts);
             all_in_turn(parts)
         }
         Form::Loop(body) => again(measured(body.get())),
         Form::Par(parts) => {
             let parts = parts.as_slice();
-            tell_parallel(term, parts);
+            parallel_parts_fit(term, parts);
             all_beside(parts)
         }
         Form::Trap(body) => trapped(measured(body.get())),
@@ -119,7 +121,7 @@ fn all_in_turn(parts: &[Term]) -> Measure
     let mut rest = None;
     for i in (0..parts.len()).rev() {
         let part = &parts[i];
-        tell_first(parts, i, part);
+        first_part_fits(parts, i, part);
         rest = Some(before(measured(part), rest));
     }
     match rest {
@@ -135,7 +137,7 @@ fn all_beside(parts: &[Term]) -> Measure
     let mut rest = None;
     for i in (0..parts.len()).rev() {
         let part = &parts[i];
-        tell_first(parts, i, part);
+        first_part_fits(parts, i, part);
         rest = Some(joined(measured(part), rest));
     }
     match rest {

@@ -1,12 +1,12 @@
 pub mod CellJoins
 pub mod CellMoves
-pub mod Closing
+pub mod ClosedInterleavings
 pub mod FittingRounds
-pub mod Interleaved
+pub mod InterleavedRounds
 pub mod MovesGrow
-pub mod Rest
+pub mod RunsAtRest
 pub mod RoundFacts
 pub mod RoundsGrow
 pub mod RoundsRun
 pub mod RoundsStamps
-pub mod Standing
+pub mod StandingSides

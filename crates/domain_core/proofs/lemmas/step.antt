@@ -1,10 +1,10 @@
 pub mod AnswerFacts
 pub mod AnswersFound
 pub mod AskPasses
-pub mod AtChannels
-pub mod Compilable
+pub mod ChannelEnds
+pub mod CompilableDomains
 pub mod CompileLists
-pub mod Compiled
+pub mod CompiledDomains
 pub mod DomainSteps
 pub mod EndCallLemmas
 pub mod JoinListLemmas
@@ -18,7 +18,7 @@ pub mod ResidualJoins
 pub mod RoundOfStep
 pub mod RoundParts
 pub mod RoundsBegin
-pub mod SinceFound
+pub mod JoinsSinceTick
 pub mod StampAnswers
 pub mod StateAnswers
 pub mod StateJoins

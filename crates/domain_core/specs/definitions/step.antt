@@ -1,4 +1,3 @@
-pub mod Built
 pub mod Compiling
 pub mod Domains
 pub mod EndCalls

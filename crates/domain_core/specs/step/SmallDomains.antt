@@ -11,7 +11,7 @@ use Rattle.kernel_terms.specs.WellFormed.{has_parts}
 use Rattle.kernel_terms.specs.Marks.{Going}
 use Rattle.kernel_terms.specs.Expressions.{Literal}
 use Rattle.kernel_terms.specs.Statements.{Stmt, Emit, Seq, Send, Receive, statement}
-use Rattle.domain_core.specs.definitions.step.Built.{is_built}
+use Rattle.kernel_terms.specs.Built.{is_built}
 use Rattle.domain_core.specs.definitions.step.Domains.{DomainView, tables_in}
 
 -- the pure outputs D of domain 0 and B of domain 1, and the channel C from domain 0 to domain 1

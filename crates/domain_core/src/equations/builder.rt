@@ -1,14 +1,15 @@
 // The equations of a starting and of a resuming tick.
 
 ghost use Rattle.std.specs.Prelude.{◌≡◌, ◌+◌, ◌^◌, ◌<◌, ◌≤◌, ◌∷◌, ◌++◌, [], length, map, drop, slice_index_or, true, IfOk, IsErr};
-ghost use Rattle.domain_core.specs.definitions.step.Built.{is_built, all_built};
+ghost use Rattle.kernel_terms.specs.Built.{is_built, all_built};
 ghost use Rattle.domain_core.specs.equations.BuiltForms.{plain};
 ghost use Rattle.domain_core.specs.equations.BuiltRegisters.{registers};
 ghost use Rattle.domain_core.specs.equations.Circuit.{start, resume, waiting};
 ghost use Rattle.domain_core.specs.equations.CircuitLists.{Adds, start_list, registers_of, resume_list, resume_before};
 
 use crate::equations::built_forms::{
-    count, count_all, ends0, ends1, tell_body, tell_built, tell_first, tell_parts,
+    count, count_all, ends0, ends1, first_part_is_built, loop_body_is_built, part_is_built,
+    sequence_parts_are_built,
 };
 use java_values::NoMemory;
 use kernel_terms::{Form, Term};
@@ -43,12 +44,12 @@ pub fn start(parts: &mut Parts, term: &Term, go: u32, register: u32) -> Result<u
         }
         Form::Seq(list) => {
             let list = list.as_slice();
-            tell_parts(term, list);
+            sequence_parts_are_built(term, list);
             start_all(parts, list, go, register)
         }
         Form::Loop(body) => {
             let body = body.get();
-            tell_body(term, body);
+            loop_body_is_built(term, body);
             start(parts, body, go, register)?;
             Ok(0)
         }
@@ -66,7 +67,7 @@ fn start_all(parts: &mut Parts, list: &[Term], go: u32, register: u32) -> Result
     let mut done = go;
     let mut next = register;
     for (at, term) in list.iter().enumerate() {
-        tell_built(list, at, term);
+        part_is_built(list, at, term);
         done = start(parts, term, done, next)?;
         if !ends0(term) {
             return Ok(done);
@@ -124,12 +125,12 @@ pub fn resume(parts: &mut Parts, term: &Term, register: u32) -> Result<u32, NoMe
         Form::Send { .. } | Form::Receive { .. } => wait(parts, register),
         Form::Seq(list) => {
             let list = list.as_slice();
-            tell_parts(term, list);
+            sequence_parts_are_built(term, list);
             resume_all(parts, list, register)
         }
         Form::Loop(body) => {
             let body = body.get();
-            tell_body(term, body);
+            loop_body_is_built(term, body);
             let done = resume(parts, body, register)?;
             if ends1(body) {
                 start(parts, body, done, register)?;
@@ -151,7 +152,7 @@ fn resume_all(parts: &mut Parts, list: &[Term], register: u32) -> Result<u32, No
     for i in (0..list.len()).rev() {
         let part = &list[i];
         let after = &list[i + 1..];
-        tell_first(list, i, part, after);
+        first_part_is_built(list, i, part, after);
         next -= count(part) as u32;
         done = resume_part(parts, part, after, done, next)?;
     }

@@ -3,7 +3,7 @@
 ghost use Rattle.std.specs.Prelude.{◌≡◌, ◌+◌, ◌^◌, ◌<◌, ◌≤◌, ◌∷◌, length, slice_index_or, map, drop, true};
 ghost use Rattle.kernel_terms.specs.Statements.{statement};
 ghost use Rattle.tick_tree.specs.definitions.Exits.{exits_fit};
-ghost use Rattle.domain_core.specs.definitions.step.Built.{is_built, all_built};
+ghost use Rattle.kernel_terms.specs.Built.{is_built, all_built};
 ghost use Rattle.domain_core.specs.equations.BuiltForms.{plain, whole, ends0, ends1};
 ghost use Rattle.domain_core.specs.equations.BuiltRegisters.{registers};
 ghost use Rattle.domain_core.specs.equations.CircuitLists.{registers_of};
@@ -12,7 +12,7 @@ use kernel_terms::{Form, Term};
 
 // What the parts of a sequence tell of it.
 #[tactic(auto, using(crate::proofs::lemmas::equations::BuiltLists::parts_of_sequences, crate::proofs::lemmas::equations::BuiltParts::built_parts))]
-pub fn tell_parts(term: &Term, parts: &[Term])
+pub fn sequence_parts_are_built(term: &Term, parts: &[Term])
     requires { term.now.form ≡ Form.Seq parts.now }
     ensures registers { registers (plain term.now) ≡ registers_of (map plain parts.now) }
     ensures built { is_built term.now ≡ true → all_built (map is_built parts.now) ≡ true }
@@ -20,7 +20,7 @@ pub fn tell_parts(term: &Term, parts: &[Term])
 
 // The parts from the i-th on.
 #[tactic(auto, using(crate::proofs::lemmas::equations::BuiltLists::first_parts, crate::proofs::lemmas::equations::BuiltParts::built_parts))]
-pub fn tell_first(list: &[Term], i: usize, part: &Term, after: &[Term])
+pub fn first_part_is_built(list: &[Term], i: usize, part: &Term, after: &[Term])
     requires within { i < length list.now }
     requires part { part.now ≡ slice_index_or list.now i part.now }
     requires after { after.now ≡ drop (i + 1) list.now }
@@ -32,14 +32,14 @@ pub fn tell_first(list: &[Term], i: usize, part: &Term, after: &[Term])
 
 // The body of a loop.
 #[tactic(auto, using(crate::proofs::lemmas::equations::BuiltParts::built_parts))]
-pub fn tell_body(term: &Term, body: &Term)
+pub fn loop_body_is_built(term: &Term, body: &Term)
     requires { term.now.form ≡ Form.Loop body.now }
     ensures built { is_built term.now ≡ true → is_built body.now ≡ true }
 {}
 
 // A part of a list whose parts have the built forms alone.
 #[tactic(auto, using(crate::proofs::lemmas::equations::BuiltParts::built_parts))]
-pub fn tell_built(list: &[Term], i: usize, part: &Term)
+pub fn part_is_built(list: &[Term], i: usize, part: &Term)
     requires within { i < length list.now }
     requires part { part.now ≡ slice_index_or list.now i part.now }
     requires built { all_built (map is_built list.now) ≡ true }
@@ -48,7 +48,7 @@ pub fn tell_built(list: &[Term], i: usize, part: &Term)
 
 // What the rules say of a tree of the built forms.
 #[tactic(auto, using(crate::proofs::lemmas::equations::BuiltParts::built_parts))]
-fn tell_whole(term: &Term)
+fn built_term_stands(term: &Term)
     requires { is_built term.now ≡ true }
     ensures fits { exits_fit (statement term.now) ≡ true }
     ensures stands { statement term.now ≡ whole (plain term.now) }
@@ -59,7 +59,7 @@ pub fn ends0(term: &Term) -> bool
     requires { is_built term.now ≡ true }
     ensures { result ≡ ends0 (plain term.now) }
 {
-    tell_whole(term);
+    built_term_stands(term);
     tick_tree::ends0(term)
 }
 
@@ -68,7 +68,7 @@ pub fn ends1(term: &Term) -> bool
     requires { is_built term.now ≡ true }
     ensures { result ≡ ends1 (plain term.now) }
 {
-    tell_whole(term);
+    built_term_stands(term);
     tick_tree::ends1(term)
 }
 
@@ -84,7 +84,7 @@ pub fn count(term: &Term) -> usize
         Form::Receive { .. } => 2,
         Form::Seq(parts) => {
             let parts = parts.as_slice();
-            tell_parts(term, parts);
+            sequence_parts_are_built(term, parts);
             count_all(parts)
         }
         Form::Loop(body) => count(body.get()),

@@ -5,7 +5,7 @@ ghost use Rattle.std.specs.List.{All};
 ghost use Rattle.kernel_terms.specs.declared.tables.Tables.{Tables};
 ghost use Rattle.kernel_terms.specs.Statements.{Stmt, statement};
 ghost use Rattle.kernel_rules.specs.definitions.Registers.{FitRegisters, residual};
-ghost use Rattle.domain_core.specs.definitions.step.Built.{is_built};
+ghost use Rattle.kernel_terms.specs.Built.{is_built};
 ghost use Rattle.domain_core.specs.equations.BuiltForms.{Plain, whole, plain};
 ghost use Rattle.domain_core.specs.equations.BuiltRegisters.{registers, HoldsLiteral};
 ghost use Rattle.domain_core.specs.equations.BuiltLimits.{CanBuild};

@@ -1,6 +1,6 @@
 ghost use Rattle.std.specs.Prelude.{◌≡◌, true};
 ghost use Rattle.kernel_terms.specs.declared.term.Form.TheViews as Form;
-ghost use Rattle.domain_core.specs.definitions.step.Built.{is_built};
+ghost use Rattle.kernel_terms.specs.Built.{is_built};
 ghost use Rattle.domain_core.specs.equations.BuiltForms.{plain};
 ghost use Rattle.domain_core.specs.equations.BuiltLimits.{CanBuild};
 
@@ -10,7 +10,7 @@ use kernel_terms::{Form, Term};
 use std::alloc::Global;
 use std::test::Fail;
 
-fn tell_receive(term: &Term, channel: u32)
+fn receive_can_be_built(term: &Term, channel: u32)
     requires { term.now.form ≡ Form.Receive channel }
     ensures built { is_built term.now ≡ true }
     ensures can { CanBuild 0 (plain term.now) }
@@ -43,7 +43,7 @@ fn a_receive_ends_once_it_has_met(rt: HostRuntime) -> Result<(), Fail> {
         at: 0,
         form: Form::Receive { channel: 3 },
     };
-    tell_receive(&term, 3);
+    receive_can_be_built(&term, 3);
     let ended = endings(rt.alloc(), &term, 0)?;
     assert!(rt; !ended[0] && !ended[1] && ended[2]);
     Ok(())

@@ -8,7 +8,7 @@ ghost use Rattle.domain_core.specs.equations.CircuitLists.{registers_of};
 ghost use Rattle.domain_core.specs.definitions.step.EndRegisters.{end_number};
 ghost use Rattle.domain_core.specs.equations.Places.{Finds, FindsAll};
 
-use crate::equations::built_forms::{count, tell_parts};
+use crate::equations::built_forms::{count, sequence_parts_are_built};
 use crate::step::ends_of::EndOf;
 use java_values::NoMemory;
 use kernel_terms::{Expr, ExprForm, Form, Term};
@@ -78,7 +78,7 @@ pub fn find(found: &mut Found, ends: &[EndOf], term: &Term, register: u32) -> Re
         }
         Form::Seq(list) => {
             let list = list.as_slice();
-            tell_parts(term, list);
+            sequence_parts_are_built(term, list);
             find_all(found, ends, list, register)
         }
         Form::Loop(body) => find(found, ends, body.get(), register),

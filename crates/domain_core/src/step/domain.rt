@@ -7,7 +7,7 @@ ghost use Rattle.kernel_terms.specs.Marks.{Going, Ended, is_over};
 ghost use Rattle.kernel_rules.specs.definitions.LegalTick.{no_inputs};
 ghost use Rattle.domain_core.specs.equations.BuiltForms.{plain};
 ghost use Rattle.domain_core.specs.equations.BuiltLimits.{CanBuild};
-ghost use Rattle.domain_core.specs.definitions.step.Built.{is_built};
+ghost use Rattle.kernel_terms.specs.Built.{is_built};
 ghost use Rattle.domain_core.specs.definitions.step.Steps.{stepped_to};
 ghost use Rattle.domain_core.specs.definitions.step.Compiling.{CanCompile, IsCompiled};
 
@@ -75,14 +75,14 @@ impl From<NoMemory> for CompileError {
 }
 
 #[tactic(auto, using(crate::proofs::lemmas::runs::WellFormedSystems::limits_of_systems))]
-fn tell_limits(system: &System)
+fn tables_are_limited(system: &System)
     ensures signals { length (tables_of system.now).signals ≤ 16384 }
     ensures channels { length (tables_of system.now).channels ≤ 64 }
     ensures variables { (d : ℕ) → d < length (domains_of system.now) → length (variables_of (tables_of system.now) d) ≤ 1024 }
 {}
 
-#[tactic(auto, using(crate::proofs::lemmas::step::Compilable::can_builds))]
-fn tell_can(system: &System, term: &Term, domain: u32)
+#[tactic(auto, using(crate::proofs::lemmas::step::CompilableDomains::can_builds))]
+fn domain_can_be_built(system: &System, term: &Term, domain: u32)
     requires can { CanCompile system.now domain }
     requires term { term.now ≡ get_or (domains_of system.now) domain term.now }
     ensures built { is_built term.now ≡ true }
@@ -97,10 +97,10 @@ pub fn compile(alloc: Global, system: &System, domain: u32) -> Result<Domain, Co
 {
     let tables = system.tables();
     let signals = tables.signals.as_slice();
-    tell_limits(system);
+    tables_are_limited(system);
     let terms = system.domains();
     let term = &terms[domain as usize];
-    tell_can(system, term, domain);
+    domain_can_be_built(system, term, domain);
     let ends = list_ends(alloc, tables.channels.as_slice(), domain)?;
     let own = list_signals(alloc, signals, domain)?;
     let codes = Codes::new(alloc, term, &ends, signals.len() as u32, &own)?;

@@ -139,7 +139,7 @@ fn pair(alloc: Global) -> Result<System, NoMemory>
 }
 
 #[tactic(auto, using(crate::proofs::lemmas::equations::PairTerms::pair_can_compile))]
-fn tell_receiver(system: &System)
+fn receiver_can_compile(system: &System)
     requires { IsPair system.now }
     ensures { CanCompile system.now 1 }
 {}
@@ -149,7 +149,7 @@ fn receiving_domain(alloc: Global) -> Result<Domain, CompileError>
     ensures { IfOk result IsReceiving }
 {
     let system = pair(alloc)?;
-    tell_receiver(&system);
+    receiver_can_compile(&system);
     let mut domain = compile(alloc, &system, 1)?;
     domain.reserve(2)?;
     Ok(domain)

@@ -1,6 +1,6 @@
 use Rattle.std.proofs.Common.{subst}
 use Rattle.channel_cell.specs.definitions.Channels.{EndState, Settles}
-use Rattle.channel_cell.proofs.Settling.{settles}
+use Rattle.channel_cell.proofs.LastRecallLemmas.{settles}
 use Rattle.channel_cell.proofs.channel.settle.Goals as goal
 
 pub returns : goal.returns

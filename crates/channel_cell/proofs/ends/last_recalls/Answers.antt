@@ -1,6 +1,6 @@
 use Rattle.std.proofs.Common.{arith}
 use Rattle.channel_cell.specs.Calls.{moves_in}
-use Rattle.channel_cell.proofs.Nexts.{small}
+use Rattle.channel_cell.proofs.NextMoveLemmas.{small}
 use Rattle.channel_cell.proofs.ends.last_recalls.Goals as goal
 use Rattle.channel_cell.proofs.ends.last_recalls.Goals.{then-is_some, else-is_some}
 

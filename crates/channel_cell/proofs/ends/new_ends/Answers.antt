@@ -1,4 +1,4 @@
-use Rattle.channel_cell.proofs.Turns.{starts}
+use Rattle.channel_cell.proofs.TableStepLemmas.{starts}
 use Rattle.channel_cell.proofs.ends.new_ends.Goals as goal
 
 pub of_words-requires : goal.of_words-requires

@@ -1,6 +1,6 @@
 use Rattle.std.proofs.Common.{arith, ap, ◌∙◌}
 use Rattle.channel_cell.specs.Lanes.{stamp_lane}
-use Rattle.channel_cell.proofs.Gluing.{may_read, stamp_got}
+use Rattle.channel_cell.proofs.BothSeatsLemmas.{may_read, stamp_got}
 use Rattle.channel_cell.proofs.joined.read_stamp.Goals as goal
 
 pub load-requires : goal.load-requires

@@ -2,8 +2,8 @@ use Rattle.std.proofs.Common.{◌+◌, ◌*◌, ◌<◌, ◌≤◌, arith, subst
 use Rattle.std.proofs.lemmas.Bool.{leb-true, leb-false}
 use Rattle.cell_core.specs.declared.moves.Side.TheVariants.{Receiver}
 use Rattle.channel_cell.specs.Calls.{held}
-use Rattle.channel_cell.proofs.Nexts.{small}
-use Rattle.channel_cell.proofs.Gluing.{may_recall_receiver, recalled_receiver}
+use Rattle.channel_cell.proofs.NextMoveLemmas.{small}
+use Rattle.channel_cell.proofs.BothSeatsLemmas.{may_recall_receiver, recalled_receiver}
 use Rattle.channel_cell.proofs.joined.recall_receiver.Goals as goal
 
 pub overflow_mul-goal : goal.overflow_mul-goal

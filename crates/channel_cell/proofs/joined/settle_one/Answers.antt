@@ -3,7 +3,7 @@ use Rattle.std.specs.Prelude.{ℤ}
 use Rattle.std.proofs.lemmas.Int.{to_z-of_z}
 use Rattle.channel_cell.specs.Lanes.{IsOwn}
 use Rattle.channel_cell.specs.Calls.{tally_of}
-use Rattle.channel_cell.proofs.Gluing.{both_joins, both_own, both_some}
+use Rattle.channel_cell.proofs.BothSeatsLemmas.{both_joins, both_own, both_some}
 use Rattle.channel_cell.proofs.joined.settle_one.Goals as goal
 
 pub read_join-requires-clause-joins : goal.read_join-requires-clause-joins

@@ -4,7 +4,7 @@ use Rattle.std.specs.Prelude.{ℤ}
 use Rattle.std.specs.Int.{w64}
 use Rattle.channel_cell.specs.Lanes.{IsOwn}
 use Rattle.channel_cell.specs.Calls.{tally_in}
-use Rattle.channel_cell.proofs.Answering.{moved_joins, moved_own, done_some}
+use Rattle.channel_cell.proofs.AnsweredMoves.{moved_joins, moved_own, done_some}
 use Rattle.channel_cell.proofs.steps.call_back.Goals as goal
 
 pub complete-requires-clause-joins : goal.complete-requires-clause-joins

@@ -1,6 +1,6 @@
 use Rattle.std.proofs.Common.{arith, ap, ◌∙◌}
 use Rattle.channel_cell.specs.Lanes.{stamp_lane}
-use Rattle.channel_cell.proofs.Seating.{may_load, stamp_got}
+use Rattle.channel_cell.proofs.OneSeatLemmas.{may_load, stamp_got}
 use Rattle.channel_cell.proofs.steps.get_stamp.Goals as goal
 
 pub load-requires : goal.load-requires

@@ -1,6 +1,6 @@
 use Rattle.std.proofs.Common.{arith, sym, ◌∙◌}
 use Rattle.std.proofs.lemmas.Bool.{eqb-true, eqb-false}
-use Rattle.channel_cell.proofs.Seating.{bounds, may_offer, offered, moved}
+use Rattle.channel_cell.proofs.OneSeatLemmas.{bounds, may_offer, offered, moved}
 use Rattle.channel_cell.proofs.steps.make_offer.Goals as goal
 
 pub overflow_mul-goal : goal.overflow_mul-goal

@@ -6,7 +6,7 @@ use Rattle.cell_core.specs.declared.moves.CellMove.TheVariants.{Offer}
 use Rattle.channel_cell.specs.Lanes.{IsOwn}
 use Rattle.channel_cell.specs.Rule.{knows_in}
 use Rattle.channel_cell.specs.Calls.{tally_in, Done}
-use Rattle.channel_cell.proofs.Answering.{moved_joins, moved_own, done_some}
+use Rattle.channel_cell.proofs.AnsweredMoves.{moved_joins, moved_own, done_some}
 use Rattle.channel_cell.proofs.steps.offer_out.Goals as goal
 
 pub complete-requires-clause-joins : goal.complete-requires-clause-joins

@@ -7,7 +7,7 @@ use Rattle.kernel_terms.specs.declared.term.Form as form
 use Rattle.kernel_terms.specs.declared.term.Form.TheVariants.{rolls-Seq, rolls-Loop}
 use Rattle.kernel_terms.specs.Statements.{statement}
 use Rattle.tick_tree.specs.definitions.Exits.{exits_fit}
-use Rattle.domain_core.specs.definitions.step.Built.{all_built, form_built, term_built, is_built, is_built_form}
+use Rattle.kernel_terms.specs.Built.{all_built, form_built, term_built, is_built, is_built_form}
 use Rattle.domain_core.specs.equations.BuiltForms.{Plain, Nothing, Pause, Emit, Seq, Loop, Send, Receive, whole, plain}
 use Rattle.domain_core.proofs.lemmas.equations.BuiltTrees.{first_true, second_true, built_stands}
 

@@ -12,7 +12,7 @@ use Rattle.kernel_terms.specs.Expressions.{Expression, Literal, Variable, Signal
 use Rattle.kernel_terms.specs.Statements.{Stmt, statement, statement_of_form, form_statement, term_statement}
 use Rattle.kernel_terms.specs.Statements as rules
 use Rattle.domain_core.specs.equations.BuiltForms.{Plain, Nothing, Pause, Emit, Loop, Send, Receive, whole, number_of, sequence, sequence_from, plain, plain_of_form, form_plain, term_plain}
-use Rattle.domain_core.specs.definitions.step.Built.{is_int_literal, all_built, form_built, term_built, is_built, is_built_form}
+use Rattle.kernel_terms.specs.Built.{is_int_literal, all_built, form_built, term_built, is_built, is_built_form}
 
 pub first_true : (a b : Bool) → a && b ≡ true → a ≡ true
 first_true true b h = refl

@@ -12,7 +12,7 @@ use Rattle.kernel_terms.specs.MayEnd.{LoopsWait}
 use Rattle.kernel_terms.specs.WellFormed.{is_well_formed, has_names, is_within_limits, has_entries, has_parts, fit_statements, declares_each_once}
 use Rattle.tick_tree.specs.definitions.Weight.{weight_of, most_weight}
 use Rattle.domain_core.specs.step.SmallDomains.{IsTermOf, IsPair, pure_domains}
-use Rattle.domain_core.specs.definitions.step.Built.{is_built}
+use Rattle.kernel_terms.specs.Built.{is_built}
 use Rattle.domain_core.specs.definitions.step.PureSignals.{HasPureOutputs}
 use Rattle.domain_core.specs.definitions.step.Compiling.{CanCompile}
 use Rattle.domain_core.specs.definitions.runs.Systems.{source_of}

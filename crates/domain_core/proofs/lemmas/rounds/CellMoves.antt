@@ -117,20 +117,20 @@ cells_split : (es first last : List Entry) → es ≡ first ++ last → cells es
 cells_split es first last h = ap cells h ∙ cells-append first last
 
 -- the two parts of entries that are merged by place
-record Parts (es ss rs : List Entry) : Type 0 where
+record MergedEntries (es ss rs : List Entry) : Type 0 where
   at_sender : of_sender (cells es) ≡ ends_of (map without_place ss)
   at_receiver : of_receiver (cells es) ≡ ends_of (map without_place rs)
 
-first_part : (a : Side) (e : Entry) (es ss rs : List Entry) (Then : List Entry → List Entry → Type 0) → ((xs ys : List Entry) → Then xs ys → Parts es xs ys) → a ≡ side_of e.what →
-    TakesNext a e ss rs Then → Parts (e ∷ es) ss rs
-first_part Sender e es ss rs Then more same h =
+first_merged : (a : Side) (e : Entry) (es ss rs : List Entry) (Then : List Entry → List Entry → Type 0) → ((xs ys : List Entry) → Then xs ys → MergedEntries es xs ys) → a ≡ side_of e.what →
+    TakesNext a e ss rs Then → MergedEntries (e ∷ es) ss rs
+first_merged Sender e es ss rs Then more same h =
     let rest = more h.0 rs h.2 in
     record {
       at_sender = ap (λ b. of_sender (by_side b (end_of e.what e.reply) ∷ cells es)) (sym same) ∙ ap (λ l. end_of e.what e.reply ∷ l) rest.at_sender
           ∙ ap (λ l. ends_of (map without_place l)) (sym h.1);
       at_receiver = ap (λ b. of_receiver (by_side b (end_of e.what e.reply) ∷ cells es)) (sym same) ∙ rest.at_receiver;
     }
-first_part Receiver e es ss rs Then more same h =
+first_merged Receiver e es ss rs Then more same h =
     let rest = more ss h.0 h.2 in
     record {
       at_sender = ap (λ b. of_sender (by_side b (end_of e.what e.reply) ∷ cells es)) (sym same) ∙ rest.at_sender;
@@ -138,9 +138,9 @@ first_part Receiver e es ss rs Then more same h =
           ∙ ap (λ l. ends_of (map without_place l)) (sym h.1);
     }
 
-parts : (n : ℕ) (es ss rs : List Entry) → AreByPlace n es ss rs → Parts es ss rs
+parts : (n : ℕ) (es ss rs : List Entry) → AreByPlace n es ss rs → MergedEntries es ss rs
 parts n [] ss rs h = record { at_sender = ap (λ l. ends_of (map without_place l)) (sym h.0); at_receiver = ap (λ l. ends_of (map without_place l)) (sym h.1) }
-parts n (e ∷ es) ss rs h = first_part (side_of e.what) e es ss rs (AreByPlace (suc n) es) (λ xs ys. parts (suc n) es xs ys) refl h.1
+parts n (e ∷ es) ss rs h = first_merged (side_of e.what) e es ss rs (AreByPlace (suc n) es) (λ xs ys. parts (suc n) es xs ys) refl h.1
 
 -- merged entries, of which the last ones have the last places
 record Split (n : ℕ) (es ls lr : List Entry) : Type 0 where

@@ -16,7 +16,7 @@ use Rattle.domain_core.specs.definitions.rounds.Interleavings.{at_cell, placed, 
 use Rattle.domain_core.specs.definitions.Rows.{rendezvous, rendezvous_run, one_interleaving, IsByRounds}
 use Rattle.domain_core.proofs.lemmas.runs.WorkedRuns.{after, legal_tick, zeros}
 use Rattle.domain_core.proofs.lemmas.runs.Rendezvous.{sending, receiving, sent, received, system}
-use Rattle.domain_core.proofs.lemmas.rounds.Interleaved.{interleaving_fits}
+use Rattle.domain_core.proofs.lemmas.rounds.InterleavedRounds.{interleaving_fits}
 
 abbrev seen : Joined
 seen = record { value = pos 5; mine = 1; theirs = 1 }

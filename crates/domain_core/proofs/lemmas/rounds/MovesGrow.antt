@@ -8,7 +8,7 @@ use Rattle.tick_log.specs.definitions.Runs.{Entry}
 use Rattle.kernel_terms.specs.Marks.{Mark}
 use Rattle.domain_core.specs.definitions.runs.Systems.{Setup}
 use Rattle.domain_core.specs.definitions.rounds.Rounds.{Offer, Rounds, found_at_offer, found_at_recall, RecallsStanding, IsOpenRounds, MakesRound, with_round, with_recalls, MoveMade, offer_move, recall_move, moves_from, Found, found_entry, found_from}
-use Rattle.domain_core.proofs.lemmas.runs.Places.{put_here, put_apart}
+use Rattle.domain_core.proofs.lemmas.runs.StatesBetweenTicks.{put_here, put_apart}
 
 offer_append : (a : Side) (o : Option Offer) (xs ys : List MoveMade) → offer_move a o (xs ++ ys) ≡ offer_move a o xs ++ ys
 offer_append a None xs ys = refl

@@ -9,7 +9,7 @@ use Rattle.kernel_terms.specs.Marks.{Mark, Going}
 use Rattle.domain_core.specs.definitions.runs.Stamps.{last_stamp}
 use Rattle.domain_core.specs.definitions.runs.Systems.{Setup}
 use Rattle.domain_core.specs.definitions.rounds.Rounds.{Offer, Rounds, RecallsStanding, IsRound, entry_stamps, IsRounds, IsOpenRounds, no_rounds, MakesRound, with_round, with_recalls}
-use Rattle.domain_core.proofs.lemmas.runs.Places.{put_here, put_apart}
+use Rattle.domain_core.proofs.lemmas.runs.StatesBetweenTicks.{put_here, put_apart}
 
 entry_before : (xs : List Entry) (e d : Entry) (n : ℕ) → n < length xs → slice_index_or (xs ++ e ∷ []) n d ≡ slice_index_or xs n d
 entry_before [] e d n h = absurd (omega arith)

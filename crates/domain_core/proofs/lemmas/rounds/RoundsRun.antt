@@ -13,8 +13,8 @@ use Rattle.domain_core.specs.definitions.runs.OwnRuns.{value_beside, value_at, o
 use Rattle.domain_core.specs.definitions.runs.Stamps.{stamp_of_join}
 use Rattle.domain_core.specs.definitions.rounds.Rounds.{Offer, Rounds, found_at_offer, found_at_recall, or_else, join_found, value_found, recalled, RecallsStanding, OffersWaiting, Found, found_entry, found_from, RoundsFit}
 use Rattle.domain_core.proofs.lemmas.runs.FoundJoins.{IsOwn, or_found, found_same, found_both}
-use Rattle.domain_core.proofs.lemmas.runs.Stamps.{channel_of}
-use Rattle.domain_core.proofs.lemmas.runs.Places.{own_sender, own_receiver}
+use Rattle.domain_core.proofs.lemmas.runs.StampRuleLemmas.{channel_of}
+use Rattle.domain_core.proofs.lemmas.runs.StatesBetweenTicks.{own_sender, own_receiver}
 use Rattle.domain_core.proofs.lemmas.rounds.RoundFacts.{out_none, all_stand, offers_at}
 use Rattle.domain_core.proofs.lemmas.rounds.CellMoves.{Offered, Recalled, offer_entry, recall_entry, end_entries, fits_cell}
 use Rattle.domain_core.proofs.lemmas.rounds.CellJoins.{Exchange, AtOnce, Stood, entries_of, found_of, KeepsValue, KeepValues, AllStamps, AllMeet, Meeting, Idle, seen_by_sender, seen_by_receiver, at_sender, at_receiver, walk}

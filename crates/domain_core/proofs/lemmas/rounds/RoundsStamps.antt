@@ -10,10 +10,10 @@ use Rattle.domain_core.specs.definitions.runs.Systems.{Setup, sender_of, receive
 use Rattle.domain_core.specs.definitions.runs.LegalRuns.{Fits, HasStamps, JoinsAt, IsJoinedAfter, tick_stamps}
 use Rattle.domain_core.specs.definitions.runs.OwnRuns.{EndsLegally}
 use Rattle.domain_core.specs.definitions.rounds.Rounds.{Offer, Rounds, found_at_offer, found_at_recall, or_else, join_found, IsFoundStamp, RecallsStanding, Found, found_entry, found_from, RoundsFit}
-use Rattle.domain_core.proofs.lemmas.runs.Stamps.{domain_of}
+use Rattle.domain_core.proofs.lemmas.runs.StampRuleLemmas.{domain_of}
 use Rattle.domain_core.proofs.lemmas.rounds.RoundFacts.{out_none}
 use Rattle.domain_core.proofs.lemmas.rounds.RoundsRun.{sent_by, got_by, blank, not_both, domain_stands, channel_facts, rounds_have_own_runs}
-use Rattle.domain_core.proofs.lemmas.runs.Cuts.{own_runs_are_legal}
+use Rattle.domain_core.proofs.lemmas.runs.StampOrderCuts.{own_runs_are_legal}
 
 abbrev pub AllAt : (Found → Type 0) → List Found → Type 0
 AllAt Q [] = Unit {0}
@@ -69,15 +69,15 @@ in_found x c m n (suc left) j h k e = elim (cases_eq n m) [
       in_more _ n (found_at_offer (x.offers n c)) _ (in_more _ n (found_at_recall (x.recalls n c)) _ (in_found x c m (suc n) left j (omega arith) (omega arith) e))
 ]
 
-record Place (g : JoinRow → Found) (d : JoinRow) (rows : List JoinRow) (f : Found) : Type 0 where
+record AtRow (g : JoinRow → Found) (d : JoinRow) (rows : List JoinRow) (f : Found) : Type 0 where
   at : ℕ
   below : at < length rows
   is : f ≡ g (slice_index_or rows at d)
 
-place_of : (g : JoinRow → Found) (d : JoinRow) (rows : List JoinRow) (f : Found) → InFound f (map g rows) → Place g d rows f
-place_of g d [] f h = absurd h
-place_of g d (row ∷ rows) f (inl h) = record { at = zero; below = omega arith; is = h }
-place_of g d (row ∷ rows) f (inr h) = let k = place_of g d rows f h in let b = k.below in record { at = suc k.at; below = omega arith; is = k.is }
+row_of_found : (g : JoinRow → Found) (d : JoinRow) (rows : List JoinRow) (f : Found) → InFound f (map g rows) → AtRow g d rows f
+row_of_found g d [] f h = absurd h
+row_of_found g d (row ∷ rows) f (inl h) = record { at = zero; below = omega arith; is = h }
+row_of_found g d (row ∷ rows) f (inr h) = let k = row_of_found g d rows f h in let b = k.below in record { at = suc k.at; below = omega arith; is = k.is }
 
 -- an offer came to a join only where it was made
 pub was_offered : (o : Option Offer) (q : Option (Option Joined)) (j : Joined) → RecallsStanding o q → or_else (found_at_recall q) (found_at_offer o) ≡ Some j → (z : Offer) × (o ≡ Some z)
@@ -120,11 +120,11 @@ found_row p r rounds f sys d n c j h a b e =
     elim own.1 [
       | inl q ↦
           let P : ℕ → Type 0 = λ z. InFound (record { number = n; value = j.value; stamp = stamp_of_join j }) (found_from (rounds z) c 1 (tick_count r z)) in
-          let k = place_of sent_by blank (history_of r c) _ (subst (InFound (record { number = n; value = j.value; stamp = stamp_of_join j })) (sym facts.sent) (subst P (sym q) here)) in
+          let k = row_of_found sent_by blank (history_of r c) _ (subst (InFound (record { number = n; value = j.value; stamp = stamp_of_join j })) (sym facts.sent) (subst P (sym q) here)) in
           (k.at, record { channel = w; stands = k.below; number = inl (q, ap (λ (z : Found). z.number) (sym k.is)) }, ap (λ (z : Found). z.stamp) k.is)
       | inr q ↦
           let P : ℕ → Type 0 = λ z. InFound (record { number = n; value = j.value; stamp = stamp_of_join j }) (found_from (rounds z) c 1 (tick_count r z)) in
-          let k = place_of got_by blank (history_of r c) _ (subst (InFound (record { number = n; value = j.value; stamp = stamp_of_join j })) (sym facts.got) (subst P (sym q) here)) in
+          let k = row_of_found got_by blank (history_of r c) _ (subst (InFound (record { number = n; value = j.value; stamp = stamp_of_join j })) (sym facts.got) (subst P (sym q) here)) in
           (k.at, record { channel = w; stands = k.below; number = inr (q, ap (λ (z : Found). z.number) (sym k.is)) }, ap (λ (z : Found). z.stamp) k.is)
     ]
 

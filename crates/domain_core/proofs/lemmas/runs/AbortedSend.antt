@@ -11,10 +11,10 @@ use Rattle.domain_core.specs.definitions.runs.Systems.{SystemState, JoinRecord, 
 use Rattle.domain_core.specs.definitions.runs.LegalRuns.{IsLegalRun, Fits}
 use Rattle.domain_core.specs.definitions.runs.Scheduled.{TakesTurns, IsScheduledRun, IsWholeRun}
 use Rattle.domain_core.specs.definitions.Rows.{aborted_send, withdrawn_run, receiver_last, joined_run, early_join, two_rounds}
-use Rattle.domain_core.proofs.lemmas.runs.Places.{put_apart}
-use Rattle.domain_core.proofs.lemmas.runs.Stamps.{later_stamp}
+use Rattle.domain_core.proofs.lemmas.runs.StatesBetweenTicks.{put_apart}
+use Rattle.domain_core.proofs.lemmas.runs.StampRuleLemmas.{later_stamp}
 use Rattle.domain_core.proofs.lemmas.runs.WorkedRuns.{ticked, zeros, either, joined, no_join, one_join, takes_turn, none_past}
-use Rattle.domain_core.proofs.lemmas.runs.Turns.{scheduled_by_step, scheduled_runs_are_whole}
+use Rattle.domain_core.proofs.lemmas.runs.ScheduledTurns.{scheduled_by_step, scheduled_runs_are_whole}
 
 abbrev sending : Tick
 sending = as_whole 1 (Seq (Abort false true (IsPresent 0) (Seq (SendWaits 0 (pos 1)) (Emit 1 None))) (Emit 2 None)) (quiet 1 (SendWaits 0 (pos 1)) zeros)

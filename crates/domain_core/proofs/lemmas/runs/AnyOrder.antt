@@ -10,8 +10,8 @@ use Rattle.domain_core.specs.definitions.runs.LegalRuns.{HasStamps, Fits, record
 use Rattle.domain_core.specs.definitions.runs.OwnRuns.{sender_ticks_at, receiver_ticks_at, value_at, own_ticks_at, found_after, with_joins, OwnRunsTo}
 use Rattle.domain_core.specs.definitions.runs.Scheduled.{TellsFrom, IsRunOf, IsLegalTo}
 use Rattle.domain_core.proofs.lemmas.runs.FoundJoins.{found_waited_to_send, found_waited_to_receive}
-use Rattle.domain_core.proofs.lemmas.runs.Places.{put_here, put_apart, put_cases, put_more, beside_absent, own_sender, own_receiver, joins_same, joins_none, one_more, joined_domains}
-use Rattle.domain_core.proofs.lemmas.runs.Cuts.{own_runs_are_legal}
+use Rattle.domain_core.proofs.lemmas.runs.StatesBetweenTicks.{put_here, put_apart, put_cases, put_more, beside_absent, own_sender, own_receiver, joins_same, joins_none, one_more, joined_domains}
+use Rattle.domain_core.proofs.lemmas.runs.StampOrderCuts.{own_runs_are_legal}
 
 -- after t d ticks of each domain and j c joins of each channel, with the states that the domains had right after their ticks
 pub record SoFar (p : Setup) (r : RunState) (after : ℕ → ℕ → DomainState) (t j : ℕ → ℕ) (s : SystemState) : Type 0 where

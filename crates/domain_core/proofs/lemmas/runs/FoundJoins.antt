@@ -7,7 +7,7 @@ use Rattle.kernel_terms.specs.declared.tables.Tables.{Tables}
 use Rattle.kernel_terms.specs.TableEntries.{channel_at}
 use Rattle.kernel_rules.specs.definitions.LegalTick.{DomainState}
 use Rattle.domain_core.specs.definitions.runs.Systems.{WaitsToSend, WaitsToReceive, rewritten, with_found, only}
-use Rattle.domain_core.proofs.lemmas.runs.Joins.{rewritten-both, rewritten-none, rewritten-same, still_sends, still_receives, waited_to_send, waited_to_receive}
+use Rattle.domain_core.proofs.lemmas.runs.JoinedStatements.{rewritten-both, rewritten-none, rewritten-same, still_sends, still_receives, waited_to_send, waited_to_receive}
 
 pub same_joined : (a b x y : ℕ → Bool) (l m : ℕ → ℤ) (s : DomainState) → ((c : ℕ) → a c ≡ x c) → ((c : ℕ) → b c ≡ y c) → ((c : ℕ) → l c ≡ m c) →
     record s { statement = rewritten a b s.statement; last = l } ≡ record s { statement = rewritten x y s.statement; last = m }

@@ -7,7 +7,7 @@ use Rattle.kernel_rules.specs.definitions.Signals.{put_at}
 use Rattle.kernel_rules.specs.definitions.LegalTick.{DomainState}
 use Rattle.domain_core.specs.definitions.runs.Systems.{WaitsToSend, WaitsToReceive, Setup, JoinRecord, SystemState, sender_of, receiver_of, with_found, only, TickStep, JoinStep}
 use Rattle.domain_core.proofs.lemmas.runs.FoundJoins.{only_here, found_waited_to_send, found_waited_to_receive}
-use Rattle.domain_core.proofs.lemmas.runs.Places.{put_here, put_apart, put_cases}
+use Rattle.domain_core.proofs.lemmas.runs.StatesBetweenTicks.{put_here, put_apart, put_cases}
 
 pub tick_elsewhere : (p : Setup) (s new : SystemState) (d : ℕ) (statuses : List (Option ℤ)) (k : TickStep p s d statuses new) (e : ℕ) → e ≢ d → new.domain e ≡ s.domain e
 tick_elsewhere p s new d statuses k e h = ap (λ z. z.domain e) k.next ∙ put_apart s.domain d k.after e h

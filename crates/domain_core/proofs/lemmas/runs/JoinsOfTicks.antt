@@ -8,9 +8,9 @@ use Rattle.kernel_rules.specs.definitions.Signals.{put_at}
 use Rattle.tick_log.specs.definitions.Runs.{RunState, tick_count, join_count}
 use Rattle.domain_core.specs.definitions.runs.Systems.{WaitsToSend, WaitsToReceive, Setup, JoinRecord, SystemState, start, sender_of, receiver_of, Move, MakesTick, MakesJoin, TickStep, JoinStep, Steps, IsSystem, IsFresh, channel_count}
 use Rattle.domain_core.specs.definitions.runs.Scheduled.{TellsFrom, IsScheduledRun}
-use Rattle.domain_core.proofs.lemmas.runs.Places.{put_here, put_apart, put_cases}
+use Rattle.domain_core.proofs.lemmas.runs.StatesBetweenTicks.{put_here, put_apart, put_cases}
 use Rattle.domain_core.proofs.lemmas.runs.JoinEffects.{tick_here, tick_elsewhere, join_at, sender_done, receiver_done}
-use Rattle.domain_core.proofs.lemmas.runs.Turns.{scheduled_run_steps}
+use Rattle.domain_core.proofs.lemmas.runs.ScheduledTurns.{scheduled_run_steps}
 
 -- so many joins at an end after so many ticks, and fewer where it waits
 record Covered (joins ticks : ℕ) (waits : Type 0) : Type 0 where

@@ -14,7 +14,7 @@ use Rattle.domain_core.specs.definitions.runs.Systems.{SystemState, Steps, Waits
 use Rattle.domain_core.specs.definitions.runs.LegalRuns.{IsLegalRun, SpendsBudgets, IsAtRest}
 use Rattle.domain_core.specs.definitions.runs.OwnRuns.{HasOwnRuns, IsOwnRun, with_joins}
 use Rattle.domain_core.specs.definitions.Rows.{rendezvous, rendezvous_run, rendezvous_with, first_ticks}
-use Rattle.domain_core.proofs.lemmas.runs.Converse.{legal_has_own_runs}
+use Rattle.domain_core.proofs.lemmas.runs.LegalRunProjections.{legal_has_own_runs}
 use Rattle.domain_core.proofs.lemmas.runs.Rendezvous.{system, first-steps}
 
 -- what domain 0 and domain 1 are left with after their first tick

@@ -8,8 +8,8 @@ use Rattle.tick_log.specs.definitions.StampOrder.{Event, TickOf, JoinOf, IsEvent
 use Rattle.domain_core.specs.definitions.runs.LegalRuns.{IsJoinedAfter, tick_stamps, HasStamps, Fits}
 use Rattle.domain_core.specs.definitions.runs.StampBound.{IsCause, HasCause, CausesFirst, StampsWithin, event_count, IsNextStamp}
 use Rattle.domain_core.specs.definitions.runs.Stamps.{IsTickStamp, last_stamp}
-use Rattle.domain_core.proofs.lemmas.runs.Order.{has_order, has_order-length}
-use Rattle.domain_core.proofs.lemmas.runs.Stamps.{none_joined, first_stamp, later_stamp, ticks_rise, join_after_sender, join_after_receiver, tick_after_join, before_stamp, channel_of, domain_of}
+use Rattle.domain_core.proofs.lemmas.runs.StampOrders.{has_order, has_order-length}
+use Rattle.domain_core.proofs.lemmas.runs.StampRuleLemmas.{none_joined, first_stamp, later_stamp, ticks_rise, join_after_sender, join_after_receiver, tick_after_join, before_stamp, channel_of, domain_of}
 
 greater_is : (a b : ℕ) → (max a b ≡ a) ⊎ (max a b ≡ b)
 greater_is a b = elim (cases_lt a b) [ inl h ↦ inr (omega arith) | inr h ↦ inl (omega arith) ]

@@ -10,8 +10,8 @@ use Rattle.domain_core.specs.definitions.runs.LegalRuns.{IsJoinStamp, HasStamps,
 use Rattle.domain_core.specs.definitions.runs.OwnRuns.{sender_ticks_at, receiver_ticks_at}
 use Rattle.domain_core.specs.definitions.runs.Scheduled.{TellsFrom, IsRunOf}
 use Rattle.domain_core.specs.runs.StampsByStep.{StampsFrom, raised_at}
-use Rattle.domain_core.proofs.lemmas.runs.Places.{put_here, put_apart, put_cases, put_more, one_more}
-use Rattle.domain_core.proofs.lemmas.runs.Stamps.{has_stamps}
+use Rattle.domain_core.proofs.lemmas.runs.StatesBetweenTicks.{put_here, put_apart, put_cases, put_more, one_more}
+use Rattle.domain_core.proofs.lemmas.runs.StampRuleLemmas.{has_stamps}
 use Rattle.domain_core.proofs.lemmas.runs.AnyOrder.{SoFar, with_tick, tick_so_far, join_so_far, at_start, place_cases}
 
 -- one of the first j c joins of channel c, of domain d after n ticks

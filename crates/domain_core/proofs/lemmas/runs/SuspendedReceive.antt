@@ -11,10 +11,10 @@ use Rattle.domain_core.specs.definitions.runs.Systems.{SystemState, JoinRecord, 
 use Rattle.domain_core.specs.definitions.runs.LegalRuns.{IsLegalRun, Fits}
 use Rattle.domain_core.specs.definitions.runs.Scheduled.{TakesTurns, IsScheduledRun, IsWholeRun}
 use Rattle.domain_core.specs.definitions.Rows.{suspended_receive, suspended_run, suspended_join, too_early, receiver_first}
-use Rattle.domain_core.proofs.lemmas.runs.Places.{put_apart}
-use Rattle.domain_core.proofs.lemmas.runs.Stamps.{later_stamp}
+use Rattle.domain_core.proofs.lemmas.runs.StatesBetweenTicks.{put_apart}
+use Rattle.domain_core.proofs.lemmas.runs.StampRuleLemmas.{later_stamp}
 use Rattle.domain_core.proofs.lemmas.runs.WorkedRuns.{ticked, zeros, either, joined, no_join, one_join, takes_turn, none_past}
-use Rattle.domain_core.proofs.lemmas.runs.Turns.{scheduled_by_step, scheduled_runs_are_whole}
+use Rattle.domain_core.proofs.lemmas.runs.ScheduledTurns.{scheduled_by_step, scheduled_runs_are_whole}
 
 abbrev inner : Tick
 inner = as_whole 1 (Seq (ReceiveWaits 0) (Emit 2 (Some (ChannelValue kind.Int 0)))) (quiet 1 (ReceiveWaits 0) zeros)

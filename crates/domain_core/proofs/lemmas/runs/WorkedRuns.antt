@@ -6,7 +6,7 @@ use Rattle.kernel_rules.specs.definitions.TickRule.{Tick, Ticks}
 use Rattle.kernel_rules.specs.definitions.LegalTick.{DomainState, IsLegalTick, is_tick_code, mark_after, status_in, values_after, shown_statuses}
 use Rattle.domain_core.specs.definitions.runs.Systems.{BothWait, Setup, SystemState, JoinRecord, Move, MakesTick, MakesJoin, TickStep, JoinStep, WaitsToSend, WaitsToReceive, sender_of, receiver_of, domain_count, channel_count, with_found, only}
 use Rattle.domain_core.specs.definitions.runs.Scheduled.{JoinsInTurn, TakesTurns}
-use Rattle.domain_core.proofs.lemmas.runs.Places.{put_apart}
+use Rattle.domain_core.proofs.lemmas.runs.StatesBetweenTicks.{put_apart}
 
 -- the statuses in a tick, and the state after it
 abbrev pub env_in : Setup → DomainState → Tick → Env

@@ -46,7 +46,7 @@ use Rattle.domain_core.proofs.lemmas.step.StateJoins.{ends_apart}
 use Rattle.domain_core.proofs.lemmas.step.StateAnswers.{same_state, length_joins}
 use Rattle.domain_core.proofs.lemmas.step.StampAnswers.{one_if, all_raised, all_other, all_counted, next_is_stamp}
 use Rattle.domain_core.proofs.lemmas.step.AnswersFound.{answers_found}
-use Rattle.domain_core.proofs.lemmas.step.Compilable.{channels_apart}
+use Rattle.domain_core.proofs.lemmas.step.CompilableDomains.{channels_apart}
 use Rattle.domain_core.proofs.lemmas.step.LastValues.{variables_same, last_same}
 use Rattle.domain_core.proofs.lemmas.equations.BuiltRules.{registers-whole}
 use Rattle.domain_core.proofs.lemmas.step.ResidualJoins.{places_same}

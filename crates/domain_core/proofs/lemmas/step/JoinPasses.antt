@@ -18,7 +18,7 @@ use Rattle.domain_core.specs.definitions.step.EndCalls.{end_at}
 use Rattle.domain_core.specs.definitions.step.EndRegisters.{receivers_before, met_at, met, with_last, joined_at, registers_joined}
 use Rattle.domain_core.specs.definitions.step.Domains.{is_receiver}
 use Rattle.domain_core.specs.step.EndPlaces.{LastFits, is_joined, met_where_at, met_where, kept_at, kept, Rise, HaveOwnRegisters}
-use Rattle.domain_core.proofs.lemmas.runs.Places.{put_apart}
+use Rattle.domain_core.proofs.lemmas.runs.StatesBetweenTicks.{put_apart}
 
 -- writes to two registers, in either order
 put_swap : (r : ℕ → ℤ) (a b : ℕ) (v w : ℤ) → a ≢ b → put_at (put_at r a v) b w ≡ put_at (put_at r b w) a v

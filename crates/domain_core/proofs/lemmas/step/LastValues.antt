@@ -18,7 +18,7 @@ use Rattle.domain_core.specs.definitions.step.EndCalls.{end_at}
 use Rattle.domain_core.specs.definitions.step.EndRegisters.{last_places, receivers_before}
 use Rattle.domain_core.specs.definitions.step.Domains.{ends_from, ends_of, is_receiver}
 use Rattle.domain_core.specs.step.EndPlaces.{LastFits}
-use Rattle.domain_core.proofs.lemmas.runs.Places.{put_here, put_apart}
+use Rattle.domain_core.proofs.lemmas.runs.StatesBetweenTicks.{put_here, put_apart}
 
 -- registers that hold the same give the same
 pub held_same : (is : List ℕ) (n : ℕ) (f g : ℕ → ℤ) → ((k : ℕ) → n ≤ k → k < n + length is → f k ≡ g k) → (c : ℕ) → held_for is n f c ≡ held_for is n g c

@@ -30,7 +30,7 @@ use Rattle.domain_core.specs.equations.SendsFit.{SendsFit}
 use Rattle.domain_core.specs.definitions.step.Domains.{ends_of, state_held}
 use Rattle.domain_core.specs.definitions.step.Steps.{WaitsAs, Waits, IsAsk, FitsJoin, IsWaitingOffer}
 use Rattle.domain_core.specs.step.StepParts.{FitsAfter}
-use Rattle.domain_core.proofs.lemmas.runs.Joins.{still_sends, still_receives}
+use Rattle.domain_core.proofs.lemmas.runs.JoinedStatements.{still_sends, still_receives}
 use Rattle.domain_core.proofs.lemmas.step.StateJoins.{AreApart, ends_apart}
 use Rattle.domain_core.proofs.lemmas.step.StateAnswers.{with_none, joined_none, state_joins, fit_all, literals_all}
 use Rattle.domain_core.proofs.lemmas.step.LastValues.{is_received}

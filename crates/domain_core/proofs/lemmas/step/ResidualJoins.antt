@@ -20,7 +20,7 @@ use Rattle.domain_core.specs.definitions.step.EndRegisters.{end_number, end_plac
 use Rattle.domain_core.specs.step.EndPlaces.{HasEnd, HasEnds}
 use Rattle.domain_core.specs.definitions.runs.Systems.{rewritten}
 use Rattle.domain_core.specs.definitions.step.Domains.{is_receiver}
-use Rattle.domain_core.proofs.lemmas.runs.Places.{put_here, put_apart}
+use Rattle.domain_core.proofs.lemmas.runs.StatesBetweenTicks.{put_here, put_apart}
 use Rattle.domain_core.proofs.lemmas.equations.BuiltRules.{registers-whole}
 use Rattle.domain_core.proofs.lemmas.step.StateJoins.{AreApart}
 

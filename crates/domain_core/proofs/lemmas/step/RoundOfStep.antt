@@ -18,15 +18,15 @@ use Rattle.domain_core.specs.definitions.step.Domains.{DomainView, ends_in, tabl
 use Rattle.domain_core.specs.definitions.step.Steps.{at_channel, answered, count_in, add_joins, IsStampSince, IsStep, TicksOnce, Stops}
 use Rattle.domain_core.specs.definitions.rounds.Rounds.{Offer, Rounds, found_at_offer, found_at_recall, value_found, offered, recalled, join_found, IsFoundStamp, entry_stamps, RecallsStanding, Found, found_from, found_entry, IsRounds, IsOpenRounds, MakesRound, with_round, with_recalls}
 use Rattle.domain_core.specs.definitions.step.RoundsOf.{recalls_made, offer_made, offers_made, stands_from, found_in, AreRoundsOf, MadeRound, MadeCut}
-use Rattle.domain_core.proofs.lemmas.runs.Places.{put_here}
+use Rattle.domain_core.proofs.lemmas.runs.StatesBetweenTicks.{put_here}
 use Rattle.domain_core.proofs.lemmas.runs.WellFormedSystems.{system_joins}
 use Rattle.domain_core.proofs.lemmas.step.StateJoins.{ends_apart}
-use Rattle.domain_core.proofs.lemmas.step.AtChannels.{EndThere, at_end, own_there}
+use Rattle.domain_core.proofs.lemmas.step.ChannelEnds.{EndThere, at_end, own_there}
 use Rattle.domain_core.proofs.lemmas.rounds.RoundFacts.{all_stand}
 use Rattle.domain_core.proofs.lemmas.rounds.RoundsGrow.{entry_last, rounds_more, rounds_close}
 use Rattle.domain_core.proofs.lemmas.rounds.MovesGrow.{joins_grown, joins_closed}
 use Rattle.domain_core.proofs.lemmas.rounds.RoundsStamps.{was_offered}
-use Rattle.domain_core.proofs.lemmas.step.SinceFound.{tick_stamp_same, since_is_found, found_is_since, join_if, found_if, joins_length, all_joined}
+use Rattle.domain_core.proofs.lemmas.step.JoinsSinceTick.{tick_stamp_same, since_is_found, found_is_since, join_if, found_if, joins_length, all_joined}
 use Rattle.domain_core.proofs.lemmas.step.RoundParts.{recalls_standing, recalls_found, offers_found, stands_made, offers_waiting as waiting}
 
 module _ (inputs : Inputs) (old : DomainView) (x : Rounds) (answers : List (Option Joined)) (stamp : ℕ) (h : AreRoundsOf old.system inputs old.domain old x)

@@ -15,7 +15,7 @@ use Rattle.domain_core.specs.definitions.step.Steps.{at_channel, IsAsk, Waits, W
 use Rattle.domain_core.specs.definitions.rounds.Rounds.{Offer, Rounds, found_at_offer, found_at_recall, RecallsStanding, OffersWaiting, MakesLog}
 use Rattle.domain_core.proofs.lemmas.step.StateJoins.{ends_apart}
 use Rattle.domain_core.specs.definitions.step.RoundsOf.{own_ends, recall_made, recalls_made, offer_made, offers_made, is_open, stands_from}
-use Rattle.domain_core.proofs.lemmas.step.AtChannels.{EndThere, NoEnd, end_or_none, at_none, at_there, at_map, own_there, EndOfChannel, channel_end, own_either, sender_side, receiver_side}
+use Rattle.domain_core.proofs.lemmas.step.ChannelEnds.{EndThere, NoEnd, end_or_none, at_none, at_there, at_map, own_there, EndOfChannel, channel_end, own_either, sender_side, receiver_side}
 
 -- what stands is recalled
 recalls_stood : (o : Option Offer) (stood : Bool) (a : Option Joined) → stood ≡ stands_from o → RecallsStanding o (recall_made stood a)

@@ -23,7 +23,7 @@ use Rattle.kernel_rules.specs.definitions.LegalTick.{DomainState, IsCoherent, Is
 use Rattle.tick_log.specs.definitions.Runs.{statuses_of}
 use Rattle.tick_log.specs.definitions.RunText.{interface_signals}
 use Rattle.tick_log.specs.definitions.Fits.{IsSignalValue, IsStatus, AreStatuses}
-use Rattle.tick_log.proofs.Interfaces.{interface_found, interface_count}
+use Rattle.tick_log.proofs.InterfaceSignals.{interface_found, interface_count}
 use Rattle.domain_core.specs.equations.BuiltForms.{Plain, whole}
 use Rattle.domain_core.specs.equations.Codes.{TellsTick}
 use Rattle.domain_core.specs.definitions.step.PureSignals.{HasPureOutputs}

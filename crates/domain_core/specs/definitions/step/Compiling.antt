@@ -9,7 +9,7 @@ use Rattle.kernel_rules.specs.definitions.LegalTick.{Inputs}
 use Rattle.kernel_rules.specs.definitions.Registers.{domain_registers}
 use Rattle.kernel_terms.specs.MayEnd.{LoopsWait}
 use Rattle.tick_tree.specs.definitions.Weight.{weight_of, most_weight}
-use Rattle.domain_core.specs.definitions.step.Built.{is_built}
+use Rattle.kernel_terms.specs.Built.{is_built}
 use Rattle.domain_core.specs.definitions.step.PureSignals.{HasPureOutputs}
 use Rattle.domain_core.specs.definitions.runs.Systems.{setup_of, start_of}
 use Rattle.domain_core.specs.definitions.step.Domains.{DomainView, ends_in, joins_at, state_of}

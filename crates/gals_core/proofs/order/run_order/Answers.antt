@@ -2,8 +2,8 @@ use Rattle.std.proofs.Common.{◌≡◌, subst, sym, ap, ◌∙◌}
 use Rattle.kernel_terms.specs.declared.system.System.{System}
 use Rattle.gals_core.specs.definitions.OrderPlans.{PlanView, FitBudgets}
 use Rattle.gals_core.specs.Plans.{IsReady}
-use Rattle.gals_core.proofs.Starting.{starts}
-use Rattle.gals_core.proofs.Finished.{is_order_run, signals_are}
+use Rattle.gals_core.proofs.PlanStart.{starts}
+use Rattle.gals_core.proofs.ScheduledRunLemmas.{is_order_run, signals_are}
 use Rattle.gals_core.proofs.order.run_order.Goals as goal
 
 pub take_turns-requires : goal.take_turns-requires

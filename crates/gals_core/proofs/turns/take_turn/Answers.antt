@@ -9,7 +9,7 @@ use Rattle.domain_core.specs.definitions.step.Steps.{FitsEnd, LeavesEnd, IsStep}
 use Rattle.gals_core.specs.Channels.{ChannelsState, Moves, end_view}
 use Rattle.gals_core.specs.BetweenTurns.{IsBetweenTurns}
 use Rattle.gals_core.specs.definitions.OrderPlans.{view_at, no_domain}
-use Rattle.gals_core.proofs.BetweenTurns.{in_views, in_ticks, countable, spared, goes, runs, counted, all_fit, skipped, stepped}
+use Rattle.gals_core.proofs.LoopTurns.{in_views, in_ticks, countable, spared, goes, runs, counted, all_fit, skipped, stepped}
 use Rattle.gals_core.proofs.turns.take_turn.Goals as goal
 
 split : (system : System) (turns : List ℕ) (at : ℕ) (views : List DomainView) (b : ChannelsState) → at < length turns → IsBetweenTurns system turns (drop at turns) views b →

@@ -1,4 +1,4 @@
-use Rattle.kernel_rules.proofs.Combining.{combined_comm, combined_assoc, combined_range}
+use Rattle.kernel_rules.proofs.CombinationLemmas.{combined_comm, combined_assoc, combined_range}
 use Rattle.kernel_rules.proofs.laws.combination_has_no_order.Goals as goal
 
 pub returns-clause-symmetric : goal.returns-clause-symmetric

@@ -1,4 +1,4 @@
-use Rattle.kernel_rules.proofs.Folding.{folded_range, folded_swapped}
+use Rattle.kernel_rules.proofs.EmissionLemmas.{folded_range, folded_swapped}
 use Rattle.kernel_rules.proofs.laws.emissions_have_no_order.Goals as goal
 
 pub returns-clause-range : goal.returns-clause-range

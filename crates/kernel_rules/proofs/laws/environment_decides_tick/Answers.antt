@@ -1,4 +1,4 @@
-use Rattle.kernel_rules.proofs.Alone.{one_tick}
+use Rattle.kernel_rules.proofs.OneTickLemmas.{one_tick}
 use Rattle.kernel_rules.proofs.laws.environment_decides_tick.Goals as goal
 
 pub returns : goal.returns

@@ -1,4 +1,4 @@
-use Rattle.kernel_rules.proofs.Codes.{greater_counts, greater_counts_first}
+use Rattle.kernel_rules.proofs.CompletionCodes.{greater_counts, greater_counts_first}
 use Rattle.kernel_rules.proofs.laws.greater_code_counts.Goals as goal
 
 pub returns-clause-first : goal.returns-clause-first

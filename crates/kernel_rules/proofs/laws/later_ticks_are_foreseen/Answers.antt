@@ -1,4 +1,4 @@
-use Rattle.kernel_rules.proofs.Resuming.{live_resumes, resuming_allows}
+use Rattle.kernel_rules.proofs.ResumingTicks.{live_resumes, resuming_allows}
 use Rattle.kernel_rules.proofs.laws.later_ticks_are_foreseen.Goals as goal
 
 pub returns-clause-resumes : goal.returns-clause-resumes

@@ -1,4 +1,4 @@
-use Rattle.kernel_rules.proofs.Mentioning.{residual_writes, residual_mentions_variable, residual_mentions_signal, residual_mentions_channel}
+use Rattle.kernel_rules.proofs.ResidualNames.{residual_writes, residual_mentions_variable, residual_mentions_signal, residual_mentions_channel}
 use Rattle.kernel_rules.proofs.laws.residuals_mention_no_more.Goals as goal
 
 pub returns-clause-writes : goal.returns-clause-writes

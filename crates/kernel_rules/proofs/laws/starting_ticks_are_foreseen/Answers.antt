@@ -1,4 +1,4 @@
-use Rattle.kernel_rules.proofs.Starting.{starting_allows}
+use Rattle.kernel_rules.proofs.StartingTicks.{starting_allows}
 use Rattle.kernel_rules.proofs.laws.starting_ticks_are_foreseen.Goals as goal
 
 pub returns-clause-ends : goal.returns-clause-ends

@@ -1,4 +1,4 @@
-use Rattle.kernel_rules.proofs.Leaving.{leaves_nothing, keeps_variable}
+use Rattle.kernel_rules.proofs.TickLocalityLemmas.{leaves_nothing, keeps_variable}
 use Rattle.kernel_rules.proofs.laws.ticks_leave_little.Goals as goal
 
 pub returns-clause-nothing : goal.returns-clause-nothing

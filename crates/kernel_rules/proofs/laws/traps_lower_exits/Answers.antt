@@ -1,5 +1,5 @@
 use Rattle.std.proofs.Common.{refl}
-use Rattle.kernel_rules.proofs.Codes.{inner_exit, trap_leaves_above}
+use Rattle.kernel_rules.proofs.CompletionCodes.{inner_exit, trap_leaves_above}
 use Rattle.kernel_rules.proofs.laws.traps_lower_exits.Goals as goal
 
 pub returns-clause-own : goal.returns-clause-own

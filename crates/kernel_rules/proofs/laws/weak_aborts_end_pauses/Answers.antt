@@ -1,5 +1,5 @@
 use Rattle.std.proofs.Common.{refl}
-use Rattle.kernel_rules.proofs.Codes.{weak_abort_leaves}
+use Rattle.kernel_rules.proofs.CompletionCodes.{weak_abort_leaves}
 use Rattle.kernel_rules.proofs.laws.weak_aborts_end_pauses.Goals as goal
 
 pub returns-clause-paused : goal.returns-clause-paused

@@ -1,4 +1,4 @@
-use Rattle.kernel_rules.proofs.RowsAlone.{strong_begins_alone, strong_abort_only}
+use Rattle.kernel_rules.proofs.OneLogRows.{strong_begins_alone, strong_abort_only}
 use Rattle.kernel_rules.proofs.RowRefusals.{no_last_words, strong_abort_alone}
 use Rattle.kernel_rules.proofs.rows.strong_abort_stops_its_body.Goals as goal
 

@@ -1,4 +1,4 @@
-use Rattle.kernel_rules.proofs.RowsAlone.{copies_begin_alone, copies_abort_alone, copies_alone}
+use Rattle.kernel_rules.proofs.OneLogRows.{copies_begin_alone, copies_abort_alone, copies_alone}
 use Rattle.kernel_rules.proofs.rows.three_copies_in_one_tick.Goals as goal
 
 pub returns-clause-first : goal.returns-clause-first

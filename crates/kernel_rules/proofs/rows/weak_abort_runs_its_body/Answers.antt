@@ -1,4 +1,4 @@
-use Rattle.kernel_rules.proofs.RowsAlone.{weak_abort_alone, endless_abort_alone}
+use Rattle.kernel_rules.proofs.OneLogRows.{weak_abort_alone, endless_abort_alone}
 use Rattle.kernel_rules.proofs.rows.weak_abort_runs_its_body.Goals as goal
 
 pub returns-clause-ending : goal.returns-clause-ending

@@ -1,4 +1,4 @@
-use Rattle.tick_log.proofs.Statuses.{Appends}
+use Rattle.tick_log.proofs.StatusLemmas.{Appends}
 use Rattle.tick_log.proofs.log.append.Given as goal
 
 abbrev pub invariant-loop-i : goal.invariant-loop-i

@@ -1,4 +1,4 @@
-use Rattle.tick_log.proofs.Interfaces.{Lists}
+use Rattle.tick_log.proofs.InterfaceSignals.{Lists}
 use Rattle.tick_log.proofs.text.list_interface.Given as goal
 
 abbrev pub invariant-loop-i : goal.invariant-loop-i

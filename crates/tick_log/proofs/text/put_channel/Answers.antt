@@ -1,4 +1,4 @@
-use Rattle.tick_log.proofs.Adding.{adds_both}
+use Rattle.tick_log.proofs.PrinterTexts.{adds_both}
 use Rattle.tick_log.proofs.text.put_channel.Goals as goal
 
 pub returns : goal.returns

@@ -1,5 +1,5 @@
 use Rattle.std.proofs.Common.{◌∙◌}
-use Rattle.tick_log.proofs.Adding.{adds_both}
+use Rattle.tick_log.proofs.PrinterTexts.{adds_both}
 use Rattle.tick_log.proofs.text.put_channel_head.Goals as goal
 
 pub returns : goal.returns

@@ -1,6 +1,6 @@
 use Rattle.std.proofs.Common.{arith, ap, ◌∙◌, get_or}
 use Rattle.kernel_terms.specs.Systems.{tables_of}
-use Rattle.tick_log.proofs.Lines.{channels_more, channel_within}
+use Rattle.tick_log.proofs.LineTexts.{channels_more, channel_within}
 use Rattle.tick_log.proofs.text.put_channels.Goals as goal
 
 pub loop-i-preserved : goal.loop-i-preserved

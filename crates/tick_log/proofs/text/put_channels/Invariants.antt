@@ -3,7 +3,7 @@ use Rattle.kernel_terms.specs.Systems.{tables_of}
 use Rattle.tick_log.specs.definitions.RunText.{text_of_lines, channel_lines}
 use Rattle.tick_log.specs.definitions.Containers.{joined}
 use Rattle.tick_log.specs.Prints.{standing}
-use Rattle.tick_log.proofs.Adding.{Completes}
+use Rattle.tick_log.proofs.PrinterTexts.{Completes}
 use Rattle.tick_log.proofs.text.put_channels.Given as goal
 
 abbrev pub invariant-loop-i : goal.invariant-loop-i

@@ -1,6 +1,6 @@
 use Rattle.std.proofs.Common.{◌<◌, All, length, sym, subst}
-use Rattle.tick_log.proofs.Adding.{adds_both}
-use Rattle.tick_log.proofs.Interfaces.{interface_known}
+use Rattle.tick_log.proofs.PrinterTexts.{adds_both}
+use Rattle.tick_log.proofs.InterfaceSignals.{interface_known}
 use Rattle.tick_log.proofs.text.put_domain.Goals as goal
 
 pub put_ticks-requires-clause-known : goal.put_ticks-requires-clause-known

@@ -1,6 +1,6 @@
 use Rattle.std.proofs.Common.{w64, rules}
 use Rattle.std.proofs.lemmas.Int.{to_z-of_z}
-use Rattle.tick_log.proofs.Adding.{adds_both}
+use Rattle.tick_log.proofs.PrinterTexts.{adds_both}
 use Rattle.tick_log.proofs.text.put_join.Goals as goal
 
 pub returns : goal.returns

@@ -1,7 +1,7 @@
 use Rattle.std.proofs.Common.{◌+◌, drop}
 use Rattle.tick_log.specs.definitions.RunText.{text_of_lines, join_lines}
 use Rattle.tick_log.specs.Prints.{standing}
-use Rattle.tick_log.proofs.Adding.{Completes}
+use Rattle.tick_log.proofs.PrinterTexts.{Completes}
 use Rattle.tick_log.proofs.text.put_joins.Given as goal
 
 abbrev pub invariant-loop-i : goal.invariant-loop-i

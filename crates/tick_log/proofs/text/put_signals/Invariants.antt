@@ -3,7 +3,7 @@ use Rattle.kernel_terms.specs.TableEntries.{signal_at}
 use Rattle.tick_log.specs.definitions.Runs.{entry_at}
 use Rattle.tick_log.specs.definitions.RunText.{signal_texts}
 use Rattle.tick_log.specs.Prints.{standing}
-use Rattle.tick_log.proofs.Adding.{Completes}
+use Rattle.tick_log.proofs.PrinterTexts.{Completes}
 use Rattle.tick_log.proofs.text.put_signals.Given as goal
 
 abbrev pub invariant-loop-i : goal.invariant-loop-i

@@ -2,7 +2,7 @@ use Rattle.std.proofs.Common.{◌+◌, drop, map}
 use Rattle.kernel_terms.specs.TableEntries.{signal_at}
 use Rattle.tick_log.specs.definitions.RunText.{text_of_lines, tick_lines}
 use Rattle.tick_log.specs.Prints.{standing}
-use Rattle.tick_log.proofs.Adding.{Completes}
+use Rattle.tick_log.proofs.PrinterTexts.{Completes}
 use Rattle.tick_log.proofs.text.put_ticks.Given as goal
 
 abbrev pub invariant-loop-i : goal.invariant-loop-i

@@ -1,4 +1,4 @@
-use Rattle.tick_tree.proofs.Places.{leaves-starting, copies-starting}
+use Rattle.tick_tree.proofs.PlaceLemmas.{leaves-starting, copies-starting}
 use Rattle.tick_tree.proofs.laws.counts_are_those_without_places.Goals as goal
 
 pub returns : goal.returns

@@ -1,4 +1,4 @@
-use Rattle.tick_tree.proofs.Signals.{signals_below}
+use Rattle.tick_tree.proofs.SignalNumbers.{signals_below}
 use Rattle.tick_tree.proofs.laws.interface_signals_come_before_copies.Goals as goal
 
 pub returns : goal.returns

@@ -1,4 +1,4 @@
-use Rattle.tick_tree.proofs.Places.{without-starting, without-resuming}
+use Rattle.tick_tree.proofs.PlaceLemmas.{without-starting, without-resuming}
 use Rattle.tick_tree.proofs.laws.places_change_no_tree.Goals as goal
 
 pub returns : goal.returns

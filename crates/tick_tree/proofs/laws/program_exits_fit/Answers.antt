@@ -1,4 +1,4 @@
-use Rattle.tick_tree.proofs.Fitting.{fitting_exits}
+use Rattle.tick_tree.proofs.ExitFitLemmas.{fitting_exits}
 use Rattle.tick_tree.proofs.laws.program_exits_fit.Goals as goal
 
 pub returns : goal.returns

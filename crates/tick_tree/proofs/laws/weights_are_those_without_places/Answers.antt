@@ -1,6 +1,6 @@
 use Rattle.std.proofs.Common.{sym, ◌∙◌}
 use Rattle.tick_tree.specs.definitions.Weight.{nowhere}
-use Rattle.tick_tree.proofs.Weighing.{weight-starting, weight-resuming}
+use Rattle.tick_tree.proofs.TreeWeights.{weight-starting, weight-resuming}
 use Rattle.tick_tree.proofs.laws.weights_are_those_without_places.Goals as goal
 
 pub returns : goal.returns

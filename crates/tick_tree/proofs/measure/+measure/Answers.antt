@@ -3,8 +3,8 @@ use Rattle.kernel_terms.specs.declared.term.Form.TheViews as Form
 use Rattle.kernel_terms.specs.Expressions.{expression, test}
 use Rattle.kernel_terms.specs.Statements.{optional_expression, statement}
 use Rattle.tick_tree.specs.Measures.{IsMeasure}
-use Rattle.tick_tree.proofs.Layers.{statement-Emit, statement-Assign, statement-Abort, statement-Suspend, statement-Send}
-use Rattle.tick_tree.proofs.Lists.{body-Abort, body-Suspend}
+use Rattle.tick_tree.proofs.StatementLayers.{statement-Emit, statement-Assign, statement-Abort, statement-Suspend, statement-Send}
+use Rattle.tick_tree.proofs.PartLists.{body-Abort, body-Suspend}
 use Rattle.tick_tree.proofs.measure.+measure.Goals as goal
 
 pub measured-returns-in-Emit : goal.measured-returns-in-Emit
@@ -19,13 +19,13 @@ measured-returns-in-Assign t c = λ fits.
 
 pub measured-returns-in-If : goal.measured-returns-in-If
 measured-returns-in-If t c = λ fits.
-    subst (λ p. IsMeasure p c.either.result) (sym c.tell_if.ensures.statement)
-    (c.either.ensures.by_condition (expression c.in-If.cond) (statement c.get-yes.result.now) (statement c.get-other.result.now) c.of_expression-in-If.ensures (c.measured.ensures (c.tell_if.ensures.left fits)) (c.measured-in-If.ensures (c.tell_if.ensures.right fits)))
+    subst (λ p. IsMeasure p c.either.result) (sym c.if_parts_fit.ensures.statement)
+    (c.either.ensures.by_condition (expression c.in-If.cond) (statement c.get-yes.result.now) (statement c.get-other.result.now) c.of_expression-in-If.ensures (c.measured.ensures (c.if_parts_fit.ensures.left fits)) (c.measured-in-If.ensures (c.if_parts_fit.ensures.right fits)))
 
 pub measured-returns-in-Present : goal.measured-returns-in-Present
 measured-returns-in-Present t c = λ fits.
-    subst (λ p. IsMeasure p c.either-in-Present.result) (sym c.tell_present.ensures.statement)
-    (c.either-in-Present.ensures.by_test (test c.in-Present.test) (statement c.get-yes-in-Present.result.now) (statement c.get-other-in-Present.result.now) c.of_test.ensures (c.measured-in-Present.ensures (c.tell_present.ensures.left fits)) (c.measured-in-Present-2.ensures (c.tell_present.ensures.right fits)))
+    subst (λ p. IsMeasure p c.either-in-Present.result) (sym c.present_parts_fit.ensures.statement)
+    (c.either-in-Present.ensures.by_test (test c.in-Present.test) (statement c.get-yes-in-Present.result.now) (statement c.get-other-in-Present.result.now) c.of_test.ensures (c.measured-in-Present.ensures (c.present_parts_fit.ensures.left fits)) (c.measured-in-Present-2.ensures (c.present_parts_fit.ensures.right fits)))
 
 pub measured-returns-in-Abort : goal.measured-returns-in-Abort
 measured-returns-in-Abort t c = λ fits.

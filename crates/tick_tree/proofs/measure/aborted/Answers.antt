@@ -1,6 +1,6 @@
 use Rattle.std.proofs.Common.{◌∙◌, ap, ◌+◌, cond, refl}
 use Rattle.tick_tree.specs.definitions.Weight.{capped}
-use Rattle.tick_tree.proofs.Found.{found-Abort}
+use Rattle.tick_tree.proofs.PartWalks.{found-Abort}
 use Rattle.tick_tree.proofs.measure.aborted.Goals as goal
 
 pub returns : goal.returns

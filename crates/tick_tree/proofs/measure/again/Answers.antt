@@ -1,7 +1,7 @@
 use Rattle.std.proofs.Common.{◌∙◌, ap, refl, ◌+◌}
 use Rattle.kernel_terms.specs.MayEnd.{starting, resuming}
 use Rattle.tick_tree.specs.definitions.Weight.{capped}
-use Rattle.tick_tree.proofs.Found.{found-Loop}
+use Rattle.tick_tree.proofs.PartWalks.{found-Loop}
 use Rattle.tick_tree.proofs.measure.again.Goals as goal
 
 pub returns : goal.returns

@@ -1,5 +1,5 @@
 use Rattle.std.proofs.Common.{refl}
-use Rattle.tick_tree.proofs.Found.{found-Par}
+use Rattle.tick_tree.proofs.PartWalks.{found-Par}
 use Rattle.tick_tree.proofs.measure.beside.Goals as goal
 
 pub returns : goal.returns

@@ -1,7 +1,7 @@
 use Rattle.std.proofs.Common.{◌∙◌, ap, refl, ◌+◌}
 use Rattle.kernel_terms.specs.MayEnd.{starting, resuming}
 use Rattle.tick_tree.specs.definitions.Weight.{capped}
-use Rattle.tick_tree.proofs.Found.{found-If, found-Present}
+use Rattle.tick_tree.proofs.PartWalks.{found-If, found-Present}
 use Rattle.tick_tree.proofs.measure.either.Goals as goal
 
 pub returns-clause-by_condition : goal.returns-clause-by_condition

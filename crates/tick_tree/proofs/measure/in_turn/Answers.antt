@@ -1,7 +1,7 @@
 use Rattle.std.proofs.Common.{◌∙◌, ap, refl, ◌+◌}
 use Rattle.kernel_terms.specs.MayEnd.{starting, resuming, in_turn}
 use Rattle.tick_tree.specs.definitions.Weight.{capped}
-use Rattle.tick_tree.proofs.Found.{found-Seq}
+use Rattle.tick_tree.proofs.PartWalks.{found-Seq}
 use Rattle.tick_tree.proofs.measure.in_turn.Goals as goal
 
 pub returns : goal.returns

@@ -1,4 +1,4 @@
-use Rattle.tick_tree.proofs.Found.{first-Suspend}
+use Rattle.tick_tree.proofs.PartWalks.{first-Suspend}
 use Rattle.tick_tree.proofs.measure.suspended.Goals as goal
 
 pub returns : goal.returns

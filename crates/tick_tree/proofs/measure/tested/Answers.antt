@@ -1,6 +1,6 @@
 use Rattle.std.proofs.Common.{◌∙◌, ap, ◌+◌, cond}
 use Rattle.tick_tree.specs.definitions.Weight.{capped}
-use Rattle.tick_tree.proofs.Found.{tested-Abort, tested-Suspend}
+use Rattle.tick_tree.proofs.PartWalks.{tested-Abort, tested-Suspend}
 use Rattle.tick_tree.proofs.measure.tested.Goals as goal
 
 pub returns-clause-strong_or_weak : goal.returns-clause-strong_or_weak

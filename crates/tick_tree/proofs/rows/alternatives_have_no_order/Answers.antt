@@ -2,7 +2,7 @@ use Rattle.std.proofs.Common.{ℕ, [], ◌∷◌, get_or, refl}
 use Rattle.tick_tree.specs.definitions.Shapes.{starting_shape, resuming_shape}
 use Rattle.tick_tree.specs.definitions.Trees.{tree_of, tree_of_some}
 use Rattle.tick_tree.specs.Rows.{reads_before_emission, reads_or_emits}
-use Rattle.tick_tree.proofs.Ranks.{rising_ranks, rising_ranks_if}
+use Rattle.tick_tree.proofs.LeafRanks.{rising_ranks, rising_ranks_if}
 use Rattle.tick_tree.proofs.rows.alternatives_have_no_order.Goals as goal
 
 -- the first pause, the assignment and the second pause behind it; the second pause and the emission behind it

@@ -3,8 +3,8 @@ use Rattle.cell_core.specs.declared.moves.CellMove.TheVariants.{Recall}
 use Rattle.channel_cell.specs.definitions.Channels.{EndState}
 use Rattle.channel_cell.specs.Rule.{knows_in}
 use Rattle.channel_cell.specs.Calls.{moves_in, tally_in, Done}
-use Rattle.channel_cell.proofs.Nexts.{small}
-use Rattle.channel_cell.proofs.Answering.{keeps_after, made, stands_seen}
+use Rattle.channel_cell.proofs.NextMoveLemmas.{small}
+use Rattle.channel_cell.proofs.AnsweredMoves.{keeps_after, made, stands_seen}
 use Rattle.channel_cell.proofs.ends.End.recall.Goals as goal
 
 pub overflow_sub-self : goal.overflow_sub-self

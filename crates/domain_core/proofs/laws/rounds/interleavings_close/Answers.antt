@@ -1,4 +1,4 @@
-use Rattle.domain_core.proofs.lemmas.rounds.Closing.{interleavings_close}
+use Rattle.domain_core.proofs.lemmas.rounds.ClosedInterleavings.{interleavings_close}
 use Rattle.domain_core.proofs.laws.rounds.interleavings_close.Goals as goal
 
 pub returns : goal.returns

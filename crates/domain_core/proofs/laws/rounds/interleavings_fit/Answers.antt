@@ -1,4 +1,4 @@
-use Rattle.domain_core.proofs.lemmas.rounds.Interleaved.{interleaving_fits}
+use Rattle.domain_core.proofs.lemmas.rounds.InterleavedRounds.{interleaving_fits}
 use Rattle.domain_core.proofs.laws.rounds.interleavings_fit.Goals as goal
 
 pub returns : goal.returns

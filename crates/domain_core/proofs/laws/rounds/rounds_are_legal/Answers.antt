@@ -1,4 +1,4 @@
-use Rattle.domain_core.proofs.lemmas.rounds.Rest.{rounds_run_legally}
+use Rattle.domain_core.proofs.lemmas.rounds.RunsAtRest.{rounds_run_legally}
 use Rattle.domain_core.proofs.laws.rounds.rounds_are_legal.Goals as goal
 
 pub returns : goal.returns

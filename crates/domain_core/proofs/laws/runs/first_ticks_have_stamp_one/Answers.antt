@@ -1,4 +1,4 @@
-use Rattle.domain_core.proofs.lemmas.runs.Stamps.{first_stamp}
+use Rattle.domain_core.proofs.lemmas.runs.StampRuleLemmas.{first_stamp}
 use Rattle.domain_core.proofs.laws.runs.first_ticks_have_stamp_one.Goals as goal
 
 pub returns : goal.returns

@@ -1,4 +1,4 @@
-use Rattle.domain_core.proofs.lemmas.runs.Converse.{legal_has_own_runs}
+use Rattle.domain_core.proofs.lemmas.runs.LegalRunProjections.{legal_has_own_runs}
 use Rattle.domain_core.proofs.laws.runs.legal_runs_have_own_runs.Goals as goal
 
 pub returns : goal.returns

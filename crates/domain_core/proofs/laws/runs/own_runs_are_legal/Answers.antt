@@ -1,4 +1,4 @@
-use Rattle.domain_core.proofs.lemmas.runs.Cuts.{own_runs_are_legal}
+use Rattle.domain_core.proofs.lemmas.runs.StampOrderCuts.{own_runs_are_legal}
 use Rattle.domain_core.proofs.laws.runs.own_runs_are_legal.Goals as goal
 
 pub returns : goal.returns

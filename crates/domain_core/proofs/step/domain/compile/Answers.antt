@@ -14,8 +14,8 @@ use Rattle.domain_core.specs.definitions.step.Domains.{ends_from, ends_of}
 use Rattle.domain_core.specs.step.DomainKeeps.{Keeps}
 use Rattle.domain_core.specs.definitions.step.Compiling.{IsCompiled}
 use Rattle.domain_core.proofs.lemmas.step.DomainSteps.{view_of, numbers_below}
-use Rattle.domain_core.proofs.lemmas.step.Compilable.{source_is}
-use Rattle.domain_core.proofs.lemmas.step.Compiled.{compiled}
+use Rattle.domain_core.proofs.lemmas.step.CompilableDomains.{source_is}
+use Rattle.domain_core.proofs.lemmas.step.CompiledDomains.{compiled}
 use Rattle.domain_core.proofs.lemmas.step.LastValues.{count_registers}
 use Rattle.domain_core.proofs.lemmas.equations.BuiltRules.{registers-whole}
 use Rattle.domain_core.proofs.step.domain.compile.Goals as goal

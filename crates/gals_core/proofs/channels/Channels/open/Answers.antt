@@ -6,7 +6,7 @@ use Rattle.std.specs.Prelude.{All, List}
 use Rattle.cell_core.specs.Cells.{empty_cell}
 use Rattle.gals_core.specs.Channels.{lists_in}
 use Rattle.gals_core.specs.Opening.{IsWithin, link_of, opened_history}
-use Rattle.gals_core.proofs.Opened.{all_within, are_channels, are_opened}
+use Rattle.gals_core.proofs.OpenedChannels.{all_within, are_channels, are_opened}
 use Rattle.gals_core.proofs.channels.Channels.open.Goals as goal
 
 pub open_histories-requires-clause-within : goal.open_histories-requires-clause-within

@@ -3,7 +3,7 @@ use Rattle.std.proofs.lemmas.Int.{to_z-of_z}
 use Rattle.cell_core.specs.declared.moves.CellMove.TheVariants as moves
 use Rattle.cell_core.specs.Cells.{cell_step, cell_reply, empty_cell}
 use Rattle.gals_core.specs.Channels.{ChannelsState, lists_in}
-use Rattle.gals_core.proofs.Moved.{offer_moves, offer_own, offer_keeps, offer_joined, offer_left}
+use Rattle.gals_core.proofs.OwnCalls.{offer_moves, offer_own, offer_keeps, offer_joined, offer_left}
 use Rattle.gals_core.proofs.channels.ChannelsEnds.offer.Goals as goal
 
 pub invariant_of-self : goal.invariant_of-self

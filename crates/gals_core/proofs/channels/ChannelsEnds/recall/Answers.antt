@@ -1,6 +1,6 @@
 use Rattle.std.proofs.Common.{subst, sym, get_or, length, [], ◌<◌}
 use Rattle.gals_core.specs.Channels.{ChannelsState, lists_in}
-use Rattle.gals_core.proofs.Moved.{recall_moves, recall_own, recall_keeps, recall_joined}
+use Rattle.gals_core.proofs.OwnCalls.{recall_moves, recall_own, recall_keeps, recall_joined}
 use Rattle.gals_core.proofs.channels.ChannelsEnds.recall.Goals as goal
 
 pub invariant_of-self : goal.invariant_of-self

@@ -2,7 +2,7 @@ use Rattle.std.proofs.Common.{rules, ◌≡◌, length, [], sym, ◌∙◌, subs
 use Rattle.std.specs.Prelude.{vec_capacity}
 use Rattle.kernel_terms.specs.declared.system.System.{System}
 use Rattle.gals_core.specs.Plans.{IsReady}
-use Rattle.gals_core.proofs.Starting.{ticks_fit, is_ready}
+use Rattle.gals_core.proofs.PlanStart.{ticks_fit, is_ready}
 use Rattle.gals_core.proofs.order.OrderPlan.open.Goals as goal
 
 pub reserve_all-requires-clause-few : goal.reserve_all-requires-clause-few

@@ -1,5 +1,5 @@
 use Rattle.std.proofs.Common.{refl}
-use Rattle.kernel_rules.proofs.Showing.{shows}
+use Rattle.kernel_rules.proofs.SeenTicks.{shows}
 use Rattle.kernel_rules.proofs.worked.codes.exit_ends_pausing_branch.Goals as goal
 
 pub returns-clause-second : goal.returns-clause-second

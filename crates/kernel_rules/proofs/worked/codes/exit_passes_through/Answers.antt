@@ -1,5 +1,5 @@
 use Rattle.std.proofs.Common.{refl}
-use Rattle.kernel_rules.proofs.Showing.{shows}
+use Rattle.kernel_rules.proofs.SeenTicks.{shows}
 use Rattle.kernel_rules.proofs.worked.codes.exit_passes_through.Goals as goal
 
 pub returns-clause-sequence : goal.returns-clause-sequence

@@ -1,5 +1,5 @@
 use Rattle.std.proofs.Common.{refl}
-use Rattle.kernel_rules.proofs.Showing.{shows}
+use Rattle.kernel_rules.proofs.SeenTicks.{shows}
 use Rattle.kernel_rules.proofs.worked.codes.parallel_ends_with_its_last_branch.Goals as goal
 
 pub returns-clause-both : goal.returns-clause-both

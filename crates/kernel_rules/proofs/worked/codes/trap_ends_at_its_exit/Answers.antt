@@ -1,5 +1,5 @@
 use Rattle.std.proofs.Common.{refl}
-use Rattle.kernel_rules.proofs.Showing.{shows}
+use Rattle.kernel_rules.proofs.SeenTicks.{shows}
 use Rattle.kernel_rules.proofs.worked.codes.trap_ends_at_its_exit.Goals as goal
 
 pub returns-clause-ended : goal.returns-clause-ended

@@ -1,6 +1,6 @@
 use Rattle.std.proofs.Common.{refl}
-use Rattle.kernel_rules.proofs.Showing.{only_tick}
-use Rattle.kernel_rules.proofs.Showing.{shows}
+use Rattle.kernel_rules.proofs.SeenTicks.{only_tick}
+use Rattle.kernel_rules.proofs.SeenTicks.{shows}
 use Rattle.kernel_rules.proofs.worked.ends.completed_ends_go_on.Goals as goal
 
 pub returns-clause-sent : goal.returns-clause-sent

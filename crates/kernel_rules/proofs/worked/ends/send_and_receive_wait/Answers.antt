@@ -1,5 +1,5 @@
 use Rattle.std.proofs.Common.{refl}
-use Rattle.kernel_rules.proofs.Showing.{only_tick}
+use Rattle.kernel_rules.proofs.SeenTicks.{only_tick}
 use Rattle.kernel_rules.proofs.worked.ends.send_and_receive_wait.Goals as goal
 
 pub returns-clause-receives : goal.returns-clause-receives

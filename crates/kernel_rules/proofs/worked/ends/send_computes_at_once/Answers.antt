@@ -1,6 +1,6 @@
 use Rattle.std.proofs.Common.{refl}
 use Rattle.std.specs.Int.{int_wrap}
-use Rattle.kernel_rules.proofs.Showing.{only_tick}
+use Rattle.kernel_rules.proofs.SeenTicks.{only_tick}
 use Rattle.kernel_rules.specs.Rows.{int}
 use Rattle.kernel_rules.specs.Worked.Readings.{sum_of_all}
 use Rattle.kernel_rules.specs.Worked.Words.{assign, plus, variable}

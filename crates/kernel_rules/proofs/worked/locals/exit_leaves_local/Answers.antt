@@ -1,5 +1,5 @@
 use Rattle.std.proofs.Common.{[], ◌∷◌, refl}
-use Rattle.kernel_rules.proofs.Showing.{shows, shows_first}
+use Rattle.kernel_rules.proofs.SeenTicks.{shows, shows_first}
 use Rattle.kernel_rules.specs.ShownTicks.{present}
 use Rattle.kernel_rules.proofs.worked.locals.exit_leaves_local.Goals as goal
 

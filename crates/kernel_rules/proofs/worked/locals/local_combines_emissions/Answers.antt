@@ -1,6 +1,6 @@
 use Rattle.std.proofs.Common.{[], ◌∷◌, refl}
 use Rattle.std.specs.Int.{int_wrap}
-use Rattle.kernel_rules.proofs.Showing.{shows, shows_first}
+use Rattle.kernel_rules.proofs.SeenTicks.{shows, shows_first}
 use Rattle.kernel_rules.specs.ShownTicks.{present_with}
 use Rattle.kernel_rules.proofs.worked.locals.local_combines_emissions.Goals as goal
 

@@ -1,5 +1,5 @@
 use Rattle.std.proofs.Common.{[], ◌∷◌, refl}
-use Rattle.kernel_rules.proofs.Showing.{shows, shows_first}
+use Rattle.kernel_rules.proofs.SeenTicks.{shows, shows_first}
 use Rattle.kernel_rules.specs.ShownTicks.{absent_with, present_with}
 use Rattle.kernel_rules.proofs.worked.locals.local_keeps_its_last_value.Goals as goal
 

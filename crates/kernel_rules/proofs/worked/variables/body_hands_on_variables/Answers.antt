@@ -1,5 +1,5 @@
 use Rattle.std.proofs.Common.{refl}
-use Rattle.kernel_rules.proofs.Showing.{shows}
+use Rattle.kernel_rules.proofs.SeenTicks.{shows}
 use Rattle.kernel_rules.proofs.worked.variables.body_hands_on_variables.Goals as goal
 
 pub returns-clause-trap : goal.returns-clause-trap

@@ -1,6 +1,6 @@
 use Rattle.std.proofs.Common.{◌∙◌, sym, ap}
 use Rattle.tick_log.specs.definitions.Containers.{LogState}
-use Rattle.tick_log.proofs.Entries.{kept_length}
+use Rattle.tick_log.proofs.LogEntryLemmas.{kept_length}
 use Rattle.tick_log.proofs.log.Log.len.Goals as goal
 
 pub returns : goal.returns

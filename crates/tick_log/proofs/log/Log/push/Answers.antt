@@ -2,8 +2,8 @@ use Rattle.std.proofs.Common.{◌-◌, ap, arith, cond}
 use Rattle.kernel_terms.specs.Marks.{Going, Ended}
 use Rattle.tick_log.specs.definitions.Runs.{statuses_of}
 use Rattle.tick_log.specs.definitions.Containers.{LogState}
-use Rattle.tick_log.proofs.Entries.{keeps_more, kept_push, same_state}
-use Rattle.tick_log.proofs.Statuses.{statuses_length}
+use Rattle.tick_log.proofs.LogEntryLemmas.{keeps_more, kept_push, same_state}
+use Rattle.tick_log.proofs.StatusLemmas.{statuses_length}
 use Rattle.tick_log.proofs.log.Log.push.Goals as goal
 
 pub invariant_of-self : goal.invariant_of-self

@@ -1,6 +1,6 @@
 use Rattle.std.proofs.Common.{ap, arith}
 use Rattle.tick_log.specs.definitions.Containers.{LogState}
-use Rattle.tick_log.proofs.Entries.{keeps_reserved, kept_length}
+use Rattle.tick_log.proofs.LogEntryLemmas.{keeps_reserved, kept_length}
 use Rattle.tick_log.proofs.log.Log.reserve.Goals as goal
 
 pub invariant_of-self-2 : goal.invariant_of-self-2

@@ -1,6 +1,6 @@
 use Rattle.std.proofs.Common.{ap, arith}
 use Rattle.tick_log.specs.definitions.Containers.{LogState}
-use Rattle.tick_log.proofs.Entries.{kept_length, kept_stamp}
+use Rattle.tick_log.proofs.LogEntryLemmas.{kept_length, kept_stamp}
 use Rattle.tick_log.proofs.log.Log.stamp.Goals as goal
 
 pub index-requires : goal.index-requires

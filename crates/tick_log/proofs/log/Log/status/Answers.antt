@@ -1,6 +1,6 @@
 use Rattle.std.proofs.Common.{◌-◌, ap, arith, vec_len}
 use Rattle.tick_log.specs.definitions.Containers.{LogState}
-use Rattle.tick_log.proofs.Entries.{kept_length, kept_status, status_within}
+use Rattle.tick_log.proofs.LogEntryLemmas.{kept_length, kept_status, status_within}
 use Rattle.tick_log.proofs.log.Log.status.Goals as goal
 
 pub index-requires : goal.index-requires
