@@ -1,3 +1,3 @@
-pub mod Operands
-pub mod TestOperands
-pub mod Exact
+pub mod OperandLemmas
+pub mod TestOperandLemmas
+pub mod LongestLemmas

@@ -16,29 +16,29 @@ use Rattle.sj_grammar.specs.definitions.Trees.{raw_of, test_of, joined}
 use Rattle.sj_grammar.specs.definitions.Machine.{Symbol, Operand, More, TestOperand, MoreTest}
 use Rattle.sj_grammar.specs.definitions.Walks.{Outcome, Refused, TooDeep, walk}
 use Rattle.expr_parser.specs.definitions.Longest.{IsExpression, IsSignalTest, IsRefused, IsTooDeep}
-use Rattle.expr_parser.specs.declared.front.Stop.{Stop}
-use Rattle.expr_parser.specs.declared.front.Stop.TheVariants as stop_at
+use Rattle.expr_parser.specs.declared.read.Stop.{Stop}
+use Rattle.expr_parser.specs.declared.read.Stop.TheVariants as stop_at
 
--- the tokens don't begin with one of the class
-pub record BeginsNot (c : Class) (tokens : List Token) : Type 0 where
+-- the first of the tokens isn't of the class
+pub record IsNotFirst (c : Class) (tokens : List Token) : Type 0 where
   pub none : (t : Token) (rest : List Token) → tokens ≡ t ∷ rest → same c t.class ≡ false
 
-pub record NoEdge (tokens : List Token) : Type 0 where
+pub record NoFirstEdge (tokens : List Token) : Type 0 where
   pub none : (t : Token) (rest : List Token) → tokens ≡ t ∷ rest → is_edge t.class ≡ false
 
-pub record NoKind (tokens : List Token) : Type 0 where
+pub record NoFirstKind (tokens : List Token) : Type 0 where
   pub none : (t : Token) (rest : List Token) → tokens ≡ t ∷ rest → has (kind_of t.class) ≡ false
 
--- they begin with this one
-pub record IsFront (c : Class) (tokens : List Token) (token : Token) (rest : List Token) : Type 0 where
+-- this is the first of them
+pub record IsFirst (c : Class) (tokens : List Token) (token : Token) (rest : List Token) : Type 0 where
   pub is : tokens ≡ token ∷ rest
   pub class_is : same c token.class ≡ true
 
-pub record IsEdgeFront (tokens : List Token) (token : Token) (rest : List Token) : Type 0 where
+pub record IsFirstEdge (tokens : List Token) (token : Token) (rest : List Token) : Type 0 where
   pub is : tokens ≡ token ∷ rest
   pub edge : is_edge token.class ≡ true
 
-pub record IsKindFront (tokens : List Token) (kind : Kind) (rest : List Token) : Type 0 where
+pub record IsFirstKind (tokens : List Token) (kind : Kind) (rest : List Token) : Type 0 where
   pub token : Token
   pub is : tokens ≡ token ∷ rest
   pub kind_is : kind_of token.class ≡ Some kind

@@ -2,9 +2,10 @@ ghost use Rattle.std.specs.Prelude.{◌≡◌, ◌<◌, ◌≤◌, [], ◌∷◌
 ghost use Rattle.sj_grammar.specs.declared.role.Lead.TheVariants as lead;
 ghost use Rattle.sj_grammar.specs.definitions.Roles.{lead_of};
 ghost use Rattle.sj_grammar.specs.definitions.Machine.{Operand, More};
-ghost use Rattle.expr_parser.specs.Reading.{infix_level, NoKind, IsKindFront, ReadsOperand, ReadsFrom, Grows, FailsAt};
+ghost use Rattle.expr_parser.specs.Reading.{infix_level, NoFirstKind, IsFirstKind, ReadsOperand, ReadsFrom, Grows, FailsAt};
 
-use crate::front::{Stop, after, edge_at, infix_level, kind_at};
+use crate::head::{after, edge_at, infix_level, kind_at};
+use crate::read::{Counted, Read, Stop};
 use crate::tree::{atom_of, least_of, make_binary, make_cast, make_group, make_unary, name_of};
 use java_values::{Kind, Op1};
 use sj_ast::{Name, Raw};
@@ -18,14 +19,6 @@ pub const MOST_OPEN: u32 = 64;
 /// How many operators an expression or a test may have.
 pub const MOST_OPERATORS: u32 = 256;
 
-/// What was read, how many operators the expression has so far, and the tokens that are left.
-#[derive(Drop)]
-pub struct Read<'a> {
-    pub tree: Raw<Name>,
-    pub operators: u32,
-    pub rest: &'a [Token],
-}
-
 /// A literal or a variable.
 fn atom<'a>(
     alloc: Global,
@@ -35,15 +28,14 @@ fn atom<'a>(
     rest: &'a [Token],
     depth: u32,
     operators: u32,
-) -> Result<Read<'a>, Stop<'a>>
+) -> Result<Read<'a, Counted<Raw<Name>>>, Stop<'a>>
     requires is { tokens.now ≡ first.now ∷ rest.now }
     requires role { lead_of first.now.class ≡ lead.Atom }
-    ensures { MatchResult result (λ r. ReadsOperand source.now tokens.now depth operators r.tree r.operators r.rest.now) (λ s. FailsAt (Operand ∷ []) tokens.now depth operators s) }
+    ensures { MatchResult result (λ r. ReadsOperand source.now tokens.now depth operators r.value.tree r.value.operators r.rest.now) (λ s. FailsAt (Operand ∷ []) tokens.now depth operators s) }
 {
     match atom_of(alloc, source, first) {
         Ok(tree) => Ok(Read {
-            tree,
-            operators,
+            value: Counted { tree, operators },
             rest,
         }),
         Err(_) => Err(Stop::NoMemory),
@@ -59,23 +51,25 @@ fn status<'a>(
     rest: &'a [Token],
     depth: u32,
     operators: u32,
-) -> Result<Read<'a>, Stop<'a>>
+) -> Result<Read<'a, Counted<Raw<Name>>>, Stop<'a>>
     requires is { tokens.now ≡ first.now ∷ rest.now }
     requires role { lead_of first.now.class ≡ lead.Hash }
-    ensures { MatchResult result (λ r. ReadsOperand source.now tokens.now depth operators r.tree r.operators r.rest.now) (λ s. FailsAt (Operand ∷ []) tokens.now depth operators s) }
+    ensures { MatchResult result (λ r. ReadsOperand source.now tokens.now depth operators r.value.tree r.value.operators r.rest.now) (λ s. FailsAt (Operand ∷ []) tokens.now depth operators s) }
 {
-    let Some(front) = after(rest, Class::Name) else {
+    let Some(named) = after(rest, Class::Name) else {
         return Err(Stop::Syntax(rest));
     };
-    match name_of(alloc, source, &front.token) {
+    match name_of(alloc, source, &named.value) {
         Ok(name) => Ok(Read {
-            tree: Raw::Status {
-                at: first.start,
-                name_at: front.token.start,
-                name,
+            value: Counted {
+                tree: Raw::Status {
+                    at: first.start,
+                    name_at: named.value.start,
+                    name,
+                },
+                operators,
             },
-            operators,
-            rest: front.rest,
+            rest: named.rest,
         }),
         Err(_) => Err(Stop::NoMemory),
     }
@@ -92,23 +86,25 @@ fn prefix<'a>(
     rest: &'a [Token],
     depth: u32,
     operators: u32,
-) -> Result<Read<'a>, Stop<'a>>
+) -> Result<Read<'a, Counted<Raw<Name>>>, Stop<'a>>
     requires is { tokens.now ≡ first.now ∷ rest.now }
     requires role { lead_of first.now.class ≡ lead.Prefix op }
-    ensures { MatchResult result (λ r. ReadsOperand source.now tokens.now depth operators r.tree r.operators r.rest.now) (λ s. FailsAt (Operand ∷ []) tokens.now depth operators s) }
+    ensures { MatchResult result (λ r. ReadsOperand source.now tokens.now depth operators r.value.tree r.value.operators r.rest.now) (λ s. FailsAt (Operand ∷ []) tokens.now depth operators s) }
 {
     if operators >= MOST_OPERATORS {
         return Err(Stop::TooDeep(tokens));
     }
     match operand(alloc, source, rest, depth, operators + 1) {
-        Ok(read) => match make_unary(alloc, first.start, op, read.tree) {
-            Ok(tree) => Ok(Read {
-                tree,
-                operators: read.operators,
-                rest: read.rest,
-            }),
-            Err(_) => Err(Stop::NoMemory),
-        },
+        Ok(read) => {
+            let Counted { tree, operators } = read.value;
+            match make_unary(alloc, first.start, op, tree) {
+                Ok(tree) => Ok(Read {
+                    value: Counted { tree, operators },
+                    rest: read.rest,
+                }),
+                Err(_) => Err(Stop::NoMemory),
+            }
+        }
         Err(stop) => Err(stop),
     }
 }
@@ -123,33 +119,37 @@ fn minus<'a>(
     rest: &'a [Token],
     depth: u32,
     operators: u32,
-) -> Result<Read<'a>, Stop<'a>>
+) -> Result<Read<'a, Counted<Raw<Name>>>, Stop<'a>>
     requires is { tokens.now ≡ first.now ∷ rest.now }
     requires role { lead_of first.now.class ≡ lead.Minus }
-    ensures { MatchResult result (λ r. ReadsOperand source.now tokens.now depth operators r.tree r.operators r.rest.now) (λ s. FailsAt (Operand ∷ []) tokens.now depth operators s) }
+    ensures { MatchResult result (λ r. ReadsOperand source.now tokens.now depth operators r.value.tree r.value.operators r.rest.now) (λ s. FailsAt (Operand ∷ []) tokens.now depth operators s) }
 {
     if operators >= MOST_OPERATORS {
         return Err(Stop::TooDeep(tokens));
     }
-    if let Some(front) = edge_at(rest) {
+    if let Some(number) = edge_at(rest) {
         return Ok(Read {
-            tree: Raw::Least {
-                at: first.start,
-                value: least_of(front.token.class),
+            value: Counted {
+                tree: Raw::Least {
+                    at: first.start,
+                    value: least_of(number.value.class),
+                },
+                operators: operators + 1,
             },
-            operators: operators + 1,
-            rest: front.rest,
+            rest: number.rest,
         });
     }
     match operand(alloc, source, rest, depth, operators + 1) {
-        Ok(read) => match make_unary(alloc, first.start, Op1::Minus, read.tree) {
-            Ok(tree) => Ok(Read {
-                tree,
-                operators: read.operators,
-                rest: read.rest,
-            }),
-            Err(_) => Err(Stop::NoMemory),
-        },
+        Ok(read) => {
+            let Counted { tree, operators } = read.value;
+            match make_unary(alloc, first.start, Op1::Minus, tree) {
+                Ok(tree) => Ok(Read {
+                    value: Counted { tree, operators },
+                    rest: read.rest,
+                }),
+                Err(_) => Err(Stop::NoMemory),
+            }
+        }
         Err(stop) => Err(stop),
     }
 }
@@ -166,12 +166,12 @@ fn cast<'a>(
     rest: &'a [Token],
     depth: u32,
     operators: u32,
-) -> Result<Read<'a>, Stop<'a>>
+) -> Result<Read<'a, Counted<Raw<Name>>>, Stop<'a>>
     requires is { tokens.now ≡ first.now ∷ inside.now }
     requires role { lead_of first.now.class ≡ lead.Open }
-    requires kind { IsKindFront inside.now kind rest.now }
+    requires kind { IsFirstKind inside.now kind rest.now }
     requires within { depth < 64 }
-    ensures { MatchResult result (λ r. ReadsOperand source.now tokens.now depth operators r.tree r.operators r.rest.now) (λ s. FailsAt (Operand ∷ []) tokens.now depth operators s) }
+    ensures { MatchResult result (λ r. ReadsOperand source.now tokens.now depth operators r.value.tree r.value.operators r.rest.now) (λ s. FailsAt (Operand ∷ []) tokens.now depth operators s) }
 {
     if operators >= MOST_OPERATORS {
         return Err(Stop::TooDeep(tokens));
@@ -180,14 +180,16 @@ fn cast<'a>(
         return Err(Stop::Syntax(rest));
     };
     match operand(alloc, source, close.rest, depth, operators + 1) {
-        Ok(read) => match make_cast(alloc, first.start, kind, read.tree) {
-            Ok(tree) => Ok(Read {
-                tree,
-                operators: read.operators,
-                rest: read.rest,
-            }),
-            Err(_) => Err(Stop::NoMemory),
-        },
+        Ok(read) => {
+            let Counted { tree, operators } = read.value;
+            match make_cast(alloc, first.start, kind, tree) {
+                Ok(tree) => Ok(Read {
+                    value: Counted { tree, operators },
+                    rest: read.rest,
+                }),
+                Err(_) => Err(Stop::NoMemory),
+            }
+        }
         Err(stop) => Err(stop),
     }
 }
@@ -202,23 +204,25 @@ fn group<'a>(
     rest: &'a [Token],
     depth: u32,
     operators: u32,
-) -> Result<Read<'a>, Stop<'a>>
+) -> Result<Read<'a, Counted<Raw<Name>>>, Stop<'a>>
     requires is { tokens.now ≡ first.now ∷ rest.now }
     requires role { lead_of first.now.class ≡ lead.Open }
-    requires no_kind { NoKind rest.now }
+    requires no_kind { NoFirstKind rest.now }
     requires within { depth < 64 }
-    ensures { MatchResult result (λ r. ReadsOperand source.now tokens.now depth operators r.tree r.operators r.rest.now) (λ s. FailsAt (Operand ∷ []) tokens.now depth operators s) }
+    ensures { MatchResult result (λ r. ReadsOperand source.now tokens.now depth operators r.value.tree r.value.operators r.rest.now) (λ s. FailsAt (Operand ∷ []) tokens.now depth operators s) }
 {
     match expression(alloc, source, rest, 1, depth + 1, operators) {
         Ok(read) => match after(read.rest, Class::Mark(Mark::CloseParen)) {
-            Some(close) => match make_group(alloc, first.start, read.tree) {
-                Ok(tree) => Ok(Read {
-                    tree,
-                    operators: read.operators,
-                    rest: close.rest,
-                }),
-                Err(_) => Err(Stop::NoMemory),
-            },
+            Some(close) => {
+                let Counted { tree, operators } = read.value;
+                match make_group(alloc, first.start, tree) {
+                    Ok(tree) => Ok(Read {
+                        value: Counted { tree, operators },
+                        rest: close.rest,
+                    }),
+                    Err(_) => Err(Stop::NoMemory),
+                }
+            }
             None => Err(Stop::Syntax(read.rest)),
         },
         Err(stop) => Err(stop),
@@ -235,17 +239,25 @@ fn opened<'a>(
     rest: &'a [Token],
     depth: u32,
     operators: u32,
-) -> Result<Read<'a>, Stop<'a>>
+) -> Result<Read<'a, Counted<Raw<Name>>>, Stop<'a>>
     requires is { tokens.now ≡ first.now ∷ rest.now }
     requires role { lead_of first.now.class ≡ lead.Open }
-    ensures { MatchResult result (λ r. ReadsOperand source.now tokens.now depth operators r.tree r.operators r.rest.now) (λ s. FailsAt (Operand ∷ []) tokens.now depth operators s) }
+    ensures { MatchResult result (λ r. ReadsOperand source.now tokens.now depth operators r.value.tree r.value.operators r.rest.now) (λ s. FailsAt (Operand ∷ []) tokens.now depth operators s) }
 {
     if depth >= MOST_OPEN {
         return Err(Stop::TooDeep(tokens));
     }
     match kind_at(rest) {
-        Some(front) => cast(
-            alloc, source, tokens, first, rest, front.kind, front.rest, depth, operators,
+        Some(named) => cast(
+            alloc,
+            source,
+            tokens,
+            first,
+            rest,
+            named.value,
+            named.rest,
+            depth,
+            operators,
         ),
         None => group(alloc, source, tokens, first, rest, depth, operators),
     }
@@ -259,8 +271,8 @@ fn operand<'a>(
     tokens: &'a [Token],
     depth: u32,
     operators: u32,
-) -> Result<Read<'a>, Stop<'a>>
-    ensures { MatchResult result (λ r. ReadsOperand source.now tokens.now depth operators r.tree r.operators r.rest.now) (λ s. FailsAt (Operand ∷ []) tokens.now depth operators s) }
+) -> Result<Read<'a, Counted<Raw<Name>>>, Stop<'a>>
+    ensures { MatchResult result (λ r. ReadsOperand source.now tokens.now depth operators r.value.tree r.value.operators r.rest.now) (λ s. FailsAt (Operand ∷ []) tokens.now depth operators s) }
 {
     let Some((first, rest)) = tokens.split_first() else {
         return Err(Stop::Syntax(tokens));
@@ -284,9 +296,9 @@ fn grow<'a>(
     tokens: &'a [Token],
     depth: u32,
     operators: u32,
-) -> Result<Read<'a>, Stop<'a>>
+) -> Result<Read<'a, Counted<Raw<Name>>>, Stop<'a>>
     requires { 1 ≤ infix_level tokens.now }
-    ensures { MatchResult result (λ r. Grows source.now tokens.now depth operators tree r.tree r.operators r.rest.now) (λ s. FailsAt (More ∷ []) tokens.now depth operators s) }
+    ensures { MatchResult result (λ r. Grows source.now tokens.now depth operators tree r.value.tree r.value.operators r.rest.now) (λ s. FailsAt (More ∷ []) tokens.now depth operators s) }
 {
     let Some((first, rest)) = tokens.split_first() else {
         unreachable!()
@@ -298,14 +310,19 @@ fn grow<'a>(
         return Err(Stop::TooDeep(tokens));
     }
     match expression(alloc, source, rest, level_of(op) + 1, depth, operators + 1) {
-        Ok(right) => match make_binary(alloc, first.start, op, tree, right.tree) {
-            Ok(tree) => Ok(Read {
-                tree,
-                operators: right.operators,
-                rest: right.rest,
-            }),
-            Err(_) => Err(Stop::NoMemory),
-        },
+        Ok(read) => {
+            let Counted {
+                tree: right,
+                operators,
+            } = read.value;
+            match make_binary(alloc, first.start, op, tree, right) {
+                Ok(tree) => Ok(Read {
+                    value: Counted { tree, operators },
+                    rest: read.rest,
+                }),
+                Err(_) => Err(Stop::NoMemory),
+            }
+        }
         Err(stop) => Err(stop),
     }
 }
@@ -319,17 +336,18 @@ pub fn expression<'a>(
     least: u32,
     depth: u32,
     operators: u32,
-) -> Result<Read<'a>, Stop<'a>>
+) -> Result<Read<'a, Counted<Raw<Name>>>, Stop<'a>>
     requires low { 1 ≤ least }
     requires high { least ≤ 11 }
-    ensures { MatchResult result (λ r. ReadsFrom source.now tokens.now depth operators least r.tree r.operators r.rest.now) (λ s. FailsAt (Operand ∷ More ∷ []) tokens.now depth operators s) }
+    ensures { MatchResult result (λ r. ReadsFrom source.now tokens.now depth operators least r.value.tree r.value.operators r.rest.now) (λ s. FailsAt (Operand ∷ More ∷ []) tokens.now depth operators s) }
 {
     let mut read = match operand(alloc, source, tokens, depth, operators) {
         Ok(read) => read,
         Err(stop) => return Err(stop),
     };
     while infix_level(read.rest) >= least {
-        read = match grow(alloc, source, read.tree, read.rest, depth, read.operators) {
+        let Counted { tree, operators } = read.value;
+        read = match grow(alloc, source, tree, read.rest, depth, operators) {
             Ok(read) => read,
             Err(stop) => return Err(stop),
         };

@@ -2,12 +2,13 @@
 #![tactic(auto)]
 
 pub mod expression;
-pub mod front;
+pub mod head;
 mod parse;
+pub mod read;
 pub mod test_parser;
 pub mod tree;
 
-pub use parse::{ExprRead, ParseError, TestRead, expr, test};
+pub use parse::{ExprRead, ParseError, TestRead, expr, place_of, test};
 
 #[cfg(test)]
 mod tests;

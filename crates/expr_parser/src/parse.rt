@@ -5,9 +5,9 @@ ghost use Rattle.sj_grammar.specs.definitions.Sentences.{AreExpression, AreTest,
 ghost use Rattle.expr_parser.specs.definitions.Longest.{ReadsExpression, ReadsTest, FailsFrom, place_of};
 ghost use Rattle.expr_parser.specs.Reading.{ExpressionBefore, TestBefore, Stops};
 
-use crate::expression::{Read, expression};
-use crate::front::Stop;
-use crate::test_parser::{TestFront, test_from};
+use crate::expression::expression;
+use crate::read::{Counted, Read, Stop};
+use crate::test_parser::test_from;
 use sj_ast::{Name, Raw, Test};
 use sj_lexer::Token;
 use std::alloc::Global;
@@ -46,8 +46,8 @@ fn longest_expression<'a>(
     source: &[u8],
     tokens: &'a [Token],
     depth: u32,
-) -> Result<Read<'a>, Stop<'a>>
-    ensures { MatchResult result (λ r. ExpressionBefore source.now tokens.now depth r.tree r.rest.now) (λ s. Stops BeginExpression AreExpression true tokens.now depth s) }
+) -> Result<Read<'a, Counted<Raw<Name>>>, Stop<'a>>
+    ensures { MatchResult result (λ r. ExpressionBefore source.now tokens.now depth r.value.tree r.rest.now) (λ s. Stops BeginExpression AreExpression true tokens.now depth s) }
 {
     match expression(alloc, source, tokens, 1, depth, 0) {
         Ok(read) => Ok(read),
@@ -60,8 +60,8 @@ fn longest_test<'a>(
     source: &[u8],
     tokens: &'a [Token],
     depth: u32,
-) -> Result<TestFront<'a>, Stop<'a>>
-    ensures { MatchResult result (λ r. TestBefore source.now tokens.now depth r.tree r.rest.now) (λ s. Stops BeginTest AreTest false tokens.now depth s) }
+) -> Result<Read<'a, Counted<Test<Name>>>, Stop<'a>>
+    ensures { MatchResult result (λ r. TestBefore source.now tokens.now depth r.value.tree r.rest.now) (λ s. Stops BeginTest AreTest false tokens.now depth s) }
 {
     match test_from(alloc, source, tokens, 1, depth, 0) {
         Ok(read) => Ok(read),
@@ -70,7 +70,7 @@ fn longest_test<'a>(
 }
 
 /// The place of the first of these tokens, or the end of the source.
-fn place_of(tokens: &[Token], source: &[u8]) -> u32
+pub fn place_of(tokens: &[Token], source: &[u8]) -> u32
     requires { length source.now ≤ 1048576 }
     ensures { result ≡ place_of tokens.now (length source.now) }
 {
@@ -103,10 +103,10 @@ pub fn expr(
     requires small { length source.now ≤ 1048576 }
     ensures { MatchResult result (λ r. ReadsExpression source.now tokens.now from depth r.tree r.next) (λ e. FailsFrom BeginExpression AreExpression true source.now tokens.now from depth e) }
 {
-    let (_, front) = tokens.split_at(from);
-    match longest_expression(alloc, source, front, depth) {
+    let (_, rest) = tokens.split_at(from);
+    match longest_expression(alloc, source, rest, depth) {
         Ok(read) => Ok(ExprRead {
-            tree: read.tree,
+            tree: read.value.tree,
             next: tokens.len() - read.rest.len(),
         }),
         Err(Stop::Syntax(bad)) => Err(ParseError::Syntax(place(tokens, bad, source))),
@@ -128,10 +128,10 @@ pub fn test(
     requires small { length source.now ≤ 1048576 }
     ensures { MatchResult result (λ r. ReadsTest source.now tokens.now from depth r.tree r.next) (λ e. FailsFrom BeginTest AreTest false source.now tokens.now from depth e) }
 {
-    let (_, front) = tokens.split_at(from);
-    match longest_test(alloc, source, front, depth) {
+    let (_, rest) = tokens.split_at(from);
+    match longest_test(alloc, source, rest, depth) {
         Ok(read) => Ok(TestRead {
-            tree: read.tree,
+            tree: read.value.tree,
             next: tokens.len() - read.rest.len(),
         }),
         Err(Stop::Syntax(bad)) => Err(ParseError::Syntax(place(tokens, bad, source))),

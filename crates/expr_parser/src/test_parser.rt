@@ -5,20 +5,13 @@ ghost use Rattle.sj_grammar.specs.definitions.Machine.{TestOperand, MoreTest};
 ghost use Rattle.expr_parser.specs.Reading.{join_level_of, ReadsTestOperand, ReadsTestFrom, TestGrows, FailsAt};
 
 use crate::expression::{MOST_OPEN, MOST_OPERATORS};
-use crate::front::{Stop, after, join_level_of};
+use crate::head::{after, join_level_of};
+use crate::read::{Counted, Read, Stop};
 use crate::tree::{make_join, make_not, make_test_group, name_of};
 use sj_ast::{Name, Test};
 use sj_grammar::{TestLead, join_level, join_of, test_lead_of};
 use sj_lexer::{Class, Mark, Token};
 use std::alloc::Global;
-
-/// What was read, how many operators the test has so far, and the tokens that are left.
-#[derive(Drop)]
-pub struct TestFront<'a> {
-    pub tree: Test<Name>,
-    pub operators: u32,
-    pub rest: &'a [Token],
-}
 
 fn signal<'a>(
     alloc: Global,
@@ -28,18 +21,20 @@ fn signal<'a>(
     rest: &'a [Token],
     depth: u32,
     operators: u32,
-) -> Result<TestFront<'a>, Stop<'a>>
+) -> Result<Read<'a, Counted<Test<Name>>>, Stop<'a>>
     requires is { tokens.now ≡ first.now ∷ rest.now }
     requires role { test_lead_of first.now.class ≡ test_lead.Signal }
-    ensures { MatchResult result (λ r. ReadsTestOperand source.now tokens.now depth operators r.tree r.operators r.rest.now) (λ s. FailsAt (TestOperand ∷ []) tokens.now depth operators s) }
+    ensures { MatchResult result (λ r. ReadsTestOperand source.now tokens.now depth operators r.value.tree r.value.operators r.rest.now) (λ s. FailsAt (TestOperand ∷ []) tokens.now depth operators s) }
 {
     match name_of(alloc, source, first) {
-        Ok(name) => Ok(TestFront {
-            tree: Test::Signal {
-                at: first.start,
-                name,
+        Ok(name) => Ok(Read {
+            value: Counted {
+                tree: Test::Signal {
+                    at: first.start,
+                    name,
+                },
+                operators,
             },
-            operators,
             rest,
         }),
         Err(_) => Err(Stop::NoMemory),
@@ -56,23 +51,25 @@ fn not<'a>(
     rest: &'a [Token],
     depth: u32,
     operators: u32,
-) -> Result<TestFront<'a>, Stop<'a>>
+) -> Result<Read<'a, Counted<Test<Name>>>, Stop<'a>>
     requires is { tokens.now ≡ first.now ∷ rest.now }
     requires role { test_lead_of first.now.class ≡ test_lead.Not }
-    ensures { MatchResult result (λ r. ReadsTestOperand source.now tokens.now depth operators r.tree r.operators r.rest.now) (λ s. FailsAt (TestOperand ∷ []) tokens.now depth operators s) }
+    ensures { MatchResult result (λ r. ReadsTestOperand source.now tokens.now depth operators r.value.tree r.value.operators r.rest.now) (λ s. FailsAt (TestOperand ∷ []) tokens.now depth operators s) }
 {
     if operators >= MOST_OPERATORS {
         return Err(Stop::TooDeep(tokens));
     }
     match test_operand(alloc, source, rest, depth, operators + 1) {
-        Ok(read) => match make_not(alloc, first.start, read.tree) {
-            Ok(tree) => Ok(TestFront {
-                tree,
-                operators: read.operators,
-                rest: read.rest,
-            }),
-            Err(_) => Err(Stop::NoMemory),
-        },
+        Ok(read) => {
+            let Counted { tree, operators } = read.value;
+            match make_not(alloc, first.start, tree) {
+                Ok(tree) => Ok(Read {
+                    value: Counted { tree, operators },
+                    rest: read.rest,
+                }),
+                Err(_) => Err(Stop::NoMemory),
+            }
+        }
         Err(stop) => Err(stop),
     }
 }
@@ -87,24 +84,26 @@ fn test_group<'a>(
     rest: &'a [Token],
     depth: u32,
     operators: u32,
-) -> Result<TestFront<'a>, Stop<'a>>
+) -> Result<Read<'a, Counted<Test<Name>>>, Stop<'a>>
     requires is { tokens.now ≡ first.now ∷ rest.now }
     requires role { test_lead_of first.now.class ≡ test_lead.Open }
-    ensures { MatchResult result (λ r. ReadsTestOperand source.now tokens.now depth operators r.tree r.operators r.rest.now) (λ s. FailsAt (TestOperand ∷ []) tokens.now depth operators s) }
+    ensures { MatchResult result (λ r. ReadsTestOperand source.now tokens.now depth operators r.value.tree r.value.operators r.rest.now) (λ s. FailsAt (TestOperand ∷ []) tokens.now depth operators s) }
 {
     if depth >= MOST_OPEN {
         return Err(Stop::TooDeep(tokens));
     }
     match test_from(alloc, source, rest, 1, depth + 1, operators) {
         Ok(read) => match after(read.rest, Class::Mark(Mark::CloseParen)) {
-            Some(close) => match make_test_group(alloc, first.start, read.tree) {
-                Ok(tree) => Ok(TestFront {
-                    tree,
-                    operators: read.operators,
-                    rest: close.rest,
-                }),
-                Err(_) => Err(Stop::NoMemory),
-            },
+            Some(close) => {
+                let Counted { tree, operators } = read.value;
+                match make_test_group(alloc, first.start, tree) {
+                    Ok(tree) => Ok(Read {
+                        value: Counted { tree, operators },
+                        rest: close.rest,
+                    }),
+                    Err(_) => Err(Stop::NoMemory),
+                }
+            }
             None => Err(Stop::Syntax(read.rest)),
         },
         Err(stop) => Err(stop),
@@ -119,8 +118,8 @@ fn test_operand<'a>(
     tokens: &'a [Token],
     depth: u32,
     operators: u32,
-) -> Result<TestFront<'a>, Stop<'a>>
-    ensures { MatchResult result (λ r. ReadsTestOperand source.now tokens.now depth operators r.tree r.operators r.rest.now) (λ s. FailsAt (TestOperand ∷ []) tokens.now depth operators s) }
+) -> Result<Read<'a, Counted<Test<Name>>>, Stop<'a>>
+    ensures { MatchResult result (λ r. ReadsTestOperand source.now tokens.now depth operators r.value.tree r.value.operators r.rest.now) (λ s. FailsAt (TestOperand ∷ []) tokens.now depth operators s) }
 {
     let Some((first, rest)) = tokens.split_first() else {
         return Err(Stop::Syntax(tokens));
@@ -142,9 +141,9 @@ fn grow_test<'a>(
     tokens: &'a [Token],
     depth: u32,
     operators: u32,
-) -> Result<TestFront<'a>, Stop<'a>>
+) -> Result<Read<'a, Counted<Test<Name>>>, Stop<'a>>
     requires { 1 ≤ join_level_of tokens.now }
-    ensures { MatchResult result (λ r. TestGrows source.now tokens.now depth operators tree r.tree r.operators r.rest.now) (λ s. FailsAt (MoreTest ∷ []) tokens.now depth operators s) }
+    ensures { MatchResult result (λ r. TestGrows source.now tokens.now depth operators tree r.value.tree r.value.operators r.rest.now) (λ s. FailsAt (MoreTest ∷ []) tokens.now depth operators s) }
 {
     let Some((first, rest)) = tokens.split_first() else {
         unreachable!()
@@ -163,14 +162,19 @@ fn grow_test<'a>(
         depth,
         operators + 1,
     ) {
-        Ok(right) => match make_join(alloc, first.start, join, tree, right.tree) {
-            Ok(tree) => Ok(TestFront {
-                tree,
-                operators: right.operators,
-                rest: right.rest,
-            }),
-            Err(_) => Err(Stop::NoMemory),
-        },
+        Ok(read) => {
+            let Counted {
+                tree: right,
+                operators,
+            } = read.value;
+            match make_join(alloc, first.start, join, tree, right) {
+                Ok(tree) => Ok(Read {
+                    value: Counted { tree, operators },
+                    rest: read.rest,
+                }),
+                Err(_) => Err(Stop::NoMemory),
+            }
+        }
         Err(stop) => Err(stop),
     }
 }
@@ -184,17 +188,18 @@ pub fn test_from<'a>(
     least: u32,
     depth: u32,
     operators: u32,
-) -> Result<TestFront<'a>, Stop<'a>>
+) -> Result<Read<'a, Counted<Test<Name>>>, Stop<'a>>
     requires low { 1 ≤ least }
     requires high { least ≤ 3 }
-    ensures { MatchResult result (λ r. ReadsTestFrom source.now tokens.now depth operators least r.tree r.operators r.rest.now) (λ s. FailsAt (TestOperand ∷ MoreTest ∷ []) tokens.now depth operators s) }
+    ensures { MatchResult result (λ r. ReadsTestFrom source.now tokens.now depth operators least r.value.tree r.value.operators r.rest.now) (λ s. FailsAt (TestOperand ∷ MoreTest ∷ []) tokens.now depth operators s) }
 {
     let mut read = match test_operand(alloc, source, tokens, depth, operators) {
         Ok(read) => read,
         Err(stop) => return Err(stop),
     };
     while join_level_of(read.rest) >= least {
-        read = match grow_test(alloc, source, read.tree, read.rest, depth, read.operators) {
+        let Counted { tree, operators } = read.value;
+        read = match grow_test(alloc, source, tree, read.rest, depth, operators) {
             Ok(read) => read,
             Err(stop) => return Err(stop),
         };

@@ -17,10 +17,10 @@ use Rattle.sj_grammar.specs.definitions.Expressions.{Expr, print, IsExpr}
 use Rattle.sj_grammar.specs.definitions.Tests.{Test, print_test, IsTest}
 use Rattle.sj_grammar.specs.definitions.Statements.{Given, NoValue, Value, print_given, IsGiven, Guard, Later, AtOnce, print_guard, IsGuard, Combined, NotCombined, CombinedBy, print_combined, IsCombined, Declared, Pure, Valued, print_declared, IsDeclared, Stmt, EmptyStmt, ParStmt, StillStmt, EmitStmt, SignalStmt, VariableStmt, AssignStmt, IfStmt, PresentStmt, WhileStmt, GuardedStmt, WeakStmt, TrapStmt, ExitStmt, SendStmt, ReceiveStmt, AwaitStmt, LoopStmt, Stmts, Done, Then, Block, Braces, Other, NoElse, ElseBlock, Others, NoOther, Beside, print_stmt, print_stmts, print_block, print_other, print_others, IsStmt, IsStmts, IsBlock, IsOther, IsOthers}
 use Rattle.sj_grammar.specs.definitions.Programs.{Port, SignalPort, ChannelPort, print_port, IsPort, Ports, NoPort, PortThen, print_ports, IsPorts, Program, print_program, IsProgram}
-use Rattle.sj_grammar.proofs.Classes.{same-itself}
-use Rattle.sj_grammar.proofs.Roles.{still-start, emission-start, guarded-start, kind-start, tests, tests-no-immediate, kind-no-direction, second-false}
+use Rattle.sj_grammar.proofs.EqualClasses.{same-itself}
+use Rattle.sj_grammar.proofs.ClassRoles.{still-start, emission-start, guarded-start, kind-start, tests, tests-no-immediate, kind-no-direction, second-false}
 use Rattle.sj_grammar.proofs.PrintedStatements.{Plainly, leads-test, NoSign, plain-stmts, no-either}
-use Rattle.sj_grammar.proofs.OneTree.{NoInfix, expr-same, parts}
+use Rattle.sj_grammar.proofs.OneExpression.{NoInfix, expr-same, parts}
 use Rattle.sj_grammar.proofs.OneTest.{NoJoin, test-same, parts as test-parts}
 
 both : {t u : Token} {ts us : List Token} → t ∷ ts ≡ u ∷ us → (t ≡ u) × (ts ≡ us)

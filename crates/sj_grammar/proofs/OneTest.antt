@@ -10,8 +10,8 @@ use Rattle.sj_grammar.specs.declared.role.TestLead.{TestLead}
 use Rattle.sj_grammar.specs.declared.role.TestLead.TheVariants as test_lead
 use Rattle.sj_grammar.specs.definitions.Roles.{test_lead_of, join_of, join_level, has}
 use Rattle.sj_grammar.specs.definitions.Tests.{Test, SignalTest, NotTest, GroupTest, JoinTest, print_test, test_level, IsTest, insert_test}
-use Rattle.sj_grammar.proofs.Insert.{join-small}
-use Rattle.sj_grammar.proofs.OneTree.{first-same}
+use Rattle.sj_grammar.proofs.OperatorInsertion.{join-small}
+use Rattle.sj_grammar.proofs.OneExpression.{first-same}
 
 -- an operator, and the operand to its right
 pub record Link : Type 0 where

@@ -19,9 +19,9 @@ use Rattle.sj_grammar.specs.definitions.Tests.{Test, SignalTest, NotTest, GroupT
 use Rattle.sj_grammar.specs.definitions.Statements.{Given, NoValue, Value, print_given, IsGiven, Guard, Later, AtOnce, print_guard, IsGuard, Combined, NotCombined, CombinedBy, print_combined, IsCombined, Declared, Pure, Valued, print_declared, IsDeclared, Stmt, EmptyStmt, ParStmt, StillStmt, EmitStmt, SignalStmt, VariableStmt, AssignStmt, IfStmt, PresentStmt, WhileStmt, GuardedStmt, WeakStmt, TrapStmt, ExitStmt, SendStmt, ReceiveStmt, AwaitStmt, LoopStmt, Stmts, Done, Then, Block, Braces, Other, NoElse, ElseBlock, Others, NoOther, Beside, print_stmt, print_stmts, print_block, print_other, print_others, IsStmt, IsStmts, IsBlock, IsOther, IsOthers}
 use Rattle.sj_grammar.specs.definitions.Programs.{Port, SignalPort, ChannelPort, print_port, IsPort, Ports, NoPort, PortThen, print_ports, IsPorts, Program, print_program, IsProgram}
 use Rattle.sj_grammar.specs.definitions.Machine.{Symbol, T, Operand, More, TestOperand, MoreTest, ImmediatePart, InBraces, Statements, OthersPart, ElsePart, ValuePart, AssignSign, CombinePart, CombineSign, PortList, SignalPart, guard_then, start_step, or_else, next, steps, program}
-use Rattle.sj_grammar.proofs.Classes.{same-itself}
-use Rattle.sj_grammar.proofs.Roles.{still-start, emission-start, guarded-start, kind-start, begins, begins-no-else, begins-no-either, tests, tests-no-immediate, kind-no-direction, kind-no-signal, second-false}
-use Rattle.sj_grammar.proofs.Printed.{Goes, then, stays, one, read, alike, same-tokens, expr-read, test-read}
+use Rattle.sj_grammar.proofs.EqualClasses.{same-itself}
+use Rattle.sj_grammar.proofs.ClassRoles.{still-start, emission-start, guarded-start, kind-start, begins, begins-no-else, begins-no-either, tests, tests-no-immediate, kind-no-direction, kind-no-signal, second-false}
+use Rattle.sj_grammar.proofs.PrintedExpressions.{Goes, then, stays, one, read, alike, same-tokens, expr-read, test-read}
 
 -- the tokens begin with one that goes on with no statement
 pub record Plainly (ts : List Token) : Type 0 where

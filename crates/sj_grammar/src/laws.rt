@@ -12,7 +12,7 @@ ghost use Rattle.sj_grammar.specs.definitions.Limits.{Tells, IsWithin, IsTooDeep
 ghost use Rattle.sj_grammar.specs.definitions.Counts.{AreWithin, IsOverBehind};
 
 /// Tokens begin an expression, a test or a program exactly where the machine can read them.
-pub fn fronts_are_what_can_be_read()
+pub fn prefixes_are_what_can_be_read()
     ensures expressions { (tokens : List Token) → BeginExpression tokens ↔ (can_read expression tokens ≡ true) }
     ensures tests { (tokens : List Token) → BeginTest tokens ↔ (can_read test tokens ≡ true) }
     ensures programs { (tokens : List Token) → BeginProgram tokens ↔ (can_read program tokens ≡ true) }

@@ -6,7 +6,7 @@ mod role;
 mod rows;
 
 pub use laws::{
-    fronts_are_what_can_be_read, limits_are_counted, sentences_are_what_is_read_whole,
+    limits_are_counted, prefixes_are_what_can_be_read, sentences_are_what_is_read_whole,
     sentences_have_one_tree, walks_tell_the_first_bad_token,
 };
 pub use role::{

@@ -216,6 +216,10 @@ fn words_up_to_sixty_four_bytes(rt: HostRuntime) -> Result<(), Fail> {
     let long = [b'n'; 65];
     assert_eq!(rt; only(alloc, &long[..64]), Ok(Some(Class::Name)));
     assert_eq!(rt; only(alloc, &long[..]), Err(LexError::BadByte(64)));
+    let mut later = [b'n'; 70];
+    later[1] = b' ';
+    assert_eq!(rt; only(alloc, &later[..66]), Ok(None));
+    assert_eq!(rt; only(alloc, &later[..67]), Err(LexError::BadByte(66)));
     assert_eq!(rt; only(alloc, b"_x9"), Ok(Some(Class::Name)));
     assert_eq!(rt; only(alloc, b"System"), Ok(Some(Class::Name)));
     assert_eq!(rt; only(alloc, b"emitS"), Ok(Some(Class::Name)));
@@ -246,17 +250,74 @@ fn comments_and_white_space(rt: HostRuntime) -> Result<(), Fail> {
     Ok(())
 }
 
+// Three tokens with their places.
 #[test]
 fn tokens_with_their_places(rt: HostRuntime) -> Result<(), Fail> {
     let alloc = rt.alloc();
-    let tokens = lexed(alloc, b"a><b /* c */ >>>= 1// d\n;")?;
-    let places: [(u32, u32); 6] = [(0, 1), (1, 3), (3, 4), (13, 17), (18, 19), (24, 25)];
-    assert_eq!(rt; tokens.len(), places.len());
-    for (token, place) in tokens.iter().zip(places) {
-        assert_eq!(rt; (token.start, token.end), place);
+    let table: [(&[u8], [(u32, u32); 3]); 6] = [
+        (b"1 - 2147483648", [(0, 1), (2, 3), (4, 14)]),
+        (b"-2147483648;", [(0, 1), (1, 11), (11, 12)]),
+        (b"a><b", [(0, 1), (1, 3), (3, 4)]),
+        (b" a>>>=b ", [(1, 2), (2, 6), (6, 7)]),
+        (
+            b"x/* c */0x80000000// d\n'\\n'",
+            [(0, 1), (8, 18), (23, 27)],
+        ),
+        (b"\t#\r\nwhile _9", [(1, 2), (4, 9), (10, 12)]),
+    ];
+    for (source, places) in table {
+        let tokens = lexed(alloc, source)?;
+        assert_eq!(rt; tokens.len(), places.len());
+        for (token, place) in tokens.iter().zip(places) {
+            assert_eq!(rt; (token.start, token.end), place);
+        }
     }
-    assert_eq!(rt; tokens[1].class, Class::Mark(Mark::Beside));
-    assert_eq!(rt; tokens[3].class, Class::Mark(Mark::UshrAssign));
+    Ok(())
+}
+
+// Whether two sources have the same tokens, but for their places.
+fn have_same_tokens(alloc: Global, source: &[u8], other: &[u8]) -> Result<bool, LexError> {
+    let tokens = lexed(alloc, source)?;
+    let others = lexed(alloc, other)?;
+    if tokens.len() != others.len() {
+        return Ok(false);
+    }
+    for (token, other) in tokens.iter().zip(others.iter()) {
+        if token.class != other.class {
+            return Ok(false);
+        }
+    }
+    Ok(true)
+}
+
+#[test]
+fn longest_token_is_taken(rt: HostRuntime) -> Result<(), Fail> {
+    let alloc = rt.alloc();
+    let table: [(&[u8], &[u8]); 16] = [
+        (b"1-2147483648", b"1 - 2147483648"),
+        (b"-9223372036854775808L", b"- 9223372036854775808L"),
+        (b"a><b", b"a >< b"),
+        (b"a<>b", b"a < > b"),
+        (b">>>=", b" >>>= "),
+        (b">>>>=", b">>> >="),
+        (b">>==", b">>= ="),
+        (b"<<<=", b"<< <="),
+        (b">><<", b">> <<"),
+        (b"><<=", b">< <="),
+        (b"&&&=|||=", b"&& &= || |="),
+        (b"===!==~=", b"== = != = ~ ="),
+        (b"+=-=--++", b"+= -= - - + +"),
+        (b"while1while while", b"n while"),
+        (b"emit_A'e'emit", b"emit_A 'e' emit"),
+        (b"7'7'7L/7", b"7 '7' 7L / 7"),
+    ];
+    for (source, apart) in table {
+        assert!(rt; have_same_tokens(alloc, source, apart)?);
+    }
+    let tokens = lexed(alloc, b"1 - 2147483648")?;
+    assert_eq!(rt; tokens.len(), 3);
+    assert_eq!(rt; tokens[1].class, Class::Mark(Mark::Minus));
+    assert_eq!(rt; tokens[2].class, Class::IntEdge);
     Ok(())
 }
 
@@ -272,9 +333,23 @@ fn longest_source(rt: HostRuntime) -> Result<(), Fail> {
 #[test]
 fn first_bad_place_decides(rt: HostRuntime) -> Result<(), Fail> {
     let alloc = rt.alloc();
-    assert_eq!(rt; only(alloc, b"emit @ 08 /*"), Err(LexError::BadByte(5)));
-    assert_eq!(rt; only(alloc, b"emit 08 @"), Err(LexError::BadNumber(5)));
-    assert_eq!(rt; only(alloc, b"emit /* 08 @"), Err(LexError::OpenComment(5)));
-    assert_eq!(rt; only(alloc, b"\xc3\xa4"), Err(LexError::BadByte(0)));
+    let table: [(&[u8], LexError); 13] = [
+        (b"emit @ 08 /*", LexError::BadByte(5)),
+        (b"emit 08 @", LexError::BadNumber(5)),
+        (b"emit /* 08 @", LexError::OpenComment(5)),
+        (b"\xc3\xa4", LexError::BadByte(0)),
+        (b"1-08", LexError::BadNumber(2)),
+        (b"a=1_0;", LexError::BadNumber(2)),
+        (b"-2147483649", LexError::BadNumber(1)),
+        (b"a='\\q';", LexError::BadByte(2)),
+        (b"'a''b", LexError::BadByte(3)),
+        (b"a/*/b", LexError::OpenComment(1)),
+        (b"/**/ /*/", LexError::OpenComment(5)),
+        (b"a>[b", LexError::BadByte(2)),
+        (b"\"", LexError::BadByte(0)),
+    ];
+    for (source, error) in table {
+        assert_eq!(rt; only(alloc, source), Err(error));
+    }
     Ok(())
 }

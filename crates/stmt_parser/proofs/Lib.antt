@@ -1,6 +1,6 @@
-pub mod Going
-pub mod Parts
-pub mod Leaves
-pub mod Blocks
-pub mod Interfaces
-pub mod Wholes
+pub mod WalkLemmas
+pub mod PartLemmas
+pub mod LeafLemmas
+pub mod BlockLemmas
+pub mod InterfaceLemmas
+pub mod ProgramLemmas

@@ -26,16 +26,16 @@ use Rattle.sj_grammar.specs.definitions.Programs.{Port, Ports, Program, print_po
 use Rattle.sj_grammar.specs.definitions.Trees.{name_of, raw_of, test_of, value_of, is_at_once, guard_test, combination_of, signal_of, SourceStmt, SourceBlock, stmt_of, stmts_of, block_of, other_of, others_of, port_of, ports_of, tree_of}
 use Rattle.sj_grammar.specs.definitions.Machine.{Symbol, T, Operand, More, TestOperand, MoreTest, ImmediatePart, InBraces, Statements, OthersPart, ElsePart, ValuePart, AssignSign, AfterKind, CombinePart, CombineSign, PortList, SignalPart, program}
 use Rattle.sj_grammar.specs.definitions.Walks.{walk}
-use Rattle.expr_parser.specs.declared.front.Stop.{Stop}
-use Rattle.expr_parser.specs.declared.front.Stop.TheVariants as stop_at
-use Rattle.expr_parser.specs.Reading.{IsFront, Fails}
+use Rattle.expr_parser.specs.declared.read.Stop.{Stop}
+use Rattle.expr_parser.specs.declared.read.Stop.TheVariants as stop_at
+use Rattle.expr_parser.specs.Reading.{IsFirst, Fails}
 use Rattle.stmt_parser.specs.definitions.Parsing.{IsRefused, IsTooDeep}
 
 -- whatever is to come after them, these symbols are read up to the rest, with so many levels and operators before and after
 pub record Goes (front : List Symbol) (ts : List Token) (d n : ℕ) (rest : List Token) (e m : ℕ) : Type 0 where
   pub goes : (k : List Symbol) → walk (front ++ k) d n ts ≡ walk k e m rest
 
--- no token of the class stands at the front, which is where the reading stops
+-- the first token isn't of the class, which is where the reading stops
 pub record Lacks (c : Class) (ts : List Token) (s : Stop) : Type 0 where
   pub fails : (k : List Symbol) (d n : ℕ) → Fails s (walk (T c ∷ k) d n ts)
 
@@ -64,7 +64,7 @@ tail_of start.Nothing = []
 -- NAME
 pub record ReadsName (source : List ℕ) (ts : List Token) (name : ast_name.Name) (rest : List Token) : Type 0 where
   pub token : Token
-  pub front : IsFront Name ts token rest
+  pub first : IsFirst Name ts token rest
   pub stands : name ≡ name_of source token
 
 -- `(` NAME `)`

@@ -6,49 +6,21 @@ ghost use Rattle.sj_lexer.specs.declared.token.Word.TheVariants as word;
 ghost use Rattle.sj_grammar.specs.declared.role.Start.TheVariants as start;
 ghost use Rattle.sj_grammar.specs.definitions.Roles.{start_of};
 ghost use Rattle.sj_grammar.specs.definitions.Machine.{T, Statements, ElsePart, OthersPart};
-ghost use Rattle.expr_parser.specs.Reading.{IsFront, FailsAt};
+ghost use Rattle.expr_parser.specs.Reading.{IsFirst, FailsAt};
 ghost use Rattle.stmt_parser.specs.Reading.{tail_of, is_start, is_form, begins_statement, ReadsForm, ReadsStmt, ReadsInside, ReadsBraces, FailsBraces, ReadsOther, ReadsOthers, is_between, Skips};
 
-use crate::leaf::{
-    StmtRead, assign, await_test, emit, exit, kinded, local_signal, receive, send, still,
-};
+use crate::leaf::{assign, await_test, emit, exit, kinded, local_signal, receive, send, still};
 use crate::make::{add_block, add_statement, block_at, guarded_form, placed};
-use crate::pieces::{MOST_OPEN, expect, read_named};
-use crate::values::{read_guard, read_parens, read_test_parens, read_true};
-use expr_parser::front::{Front, Stop, after};
+use crate::pieces::{expect, read_named};
+use crate::values::{Guard, read_guard, read_parens, read_test_parens, read_true};
+use expr_parser::expression::MOST_OPEN;
+use expr_parser::head::after;
+use expr_parser::read::{Read, Stop};
 use sj_ast::{Block, Form, Name, Raw, Stmt};
 use sj_grammar::{Start, start_of};
 use sj_lexer::{Class, Mark, Token, Word};
 use sqlite_items::Items;
 use std::alloc::Global;
-
-/// A block, and the tokens behind it.
-#[derive(Drop)]
-pub struct BlockRead<'a> {
-    pub block: Block<Name, Raw<Name>>,
-    pub rest: &'a [Token],
-}
-
-/// The statements of a block, and the tokens behind its `}`.
-#[derive(Drop)]
-struct InsideRead<'a> {
-    statements: Vec<Stmt<Name, Raw<Name>>>,
-    rest: &'a [Token],
-}
-
-/// The block behind an `else`, where there is one, and the tokens behind it.
-#[derive(Drop)]
-struct OtherRead<'a> {
-    other: Option<Block<Name, Raw<Name>>>,
-    rest: &'a [Token],
-}
-
-/// Further blocks, and the tokens behind them.
-#[derive(Drop)]
-pub struct OthersRead<'a> {
-    pub others: Vec<Block<Name, Raw<Name>>>,
-    pub rest: &'a [Token],
-}
 
 fn is_start(start: Start) -> bool
     ensures { result ≡ is_start start }
@@ -80,21 +52,21 @@ fn begins_statement(tokens: &[Token]) -> bool
 }
 
 /// An `else` that the tokens begin with.
-fn else_at(tokens: &[Token]) -> Option<Front>
-    ensures { MatchOption result (Skips ElsePart tokens.now) (λ f. IsFront (class_is.Reserved word.Else) tokens.now f.token f.rest.now) }
+fn else_at(tokens: &[Token]) -> Option<Read<Token>>
+    ensures { MatchOption result (Skips ElsePart tokens.now) (λ f. IsFirst (class_is.Reserved word.Else) tokens.now f.value f.rest.now) }
 {
     match after(tokens, Class::Reserved(Word::Else)) {
-        Some(front) => Some(front),
+        Some(first) => Some(first),
         None => None,
     }
 }
 
 /// The sign before a further block.
-fn beside_at(tokens: &[Token], between: Mark) -> Option<Front>
-    ensures { MatchOption result (Skips (OthersPart between) tokens.now) (λ f. IsFront (class_is.Mark between) tokens.now f.token f.rest.now) }
+fn beside_at(tokens: &[Token], between: Mark) -> Option<Read<Token>>
+    ensures { MatchOption result (Skips (OthersPart between) tokens.now) (λ f. IsFirst (class_is.Mark between) tokens.now f.value f.rest.now) }
 {
     match after(tokens, Class::Mark(between)) {
-        Some(front) => Some(front),
+        Some(first) => Some(first),
         None => None,
     }
 }
@@ -106,8 +78,8 @@ pub fn braces<'a>(
     source: &[u8],
     tokens: &'a [Token],
     depth: u32,
-) -> Result<BlockRead<'a>, Stop<'a>>
-    ensures { MatchResult result (λ r. ReadsBraces source.now tokens.now depth r.block r.rest.now) (λ s. FailsBraces tokens.now depth s) }
+) -> Result<Read<'a, Block<Name, Raw<Name>>>, Stop<'a>>
+    ensures { MatchResult result (λ r. ReadsBraces source.now tokens.now depth r.value r.rest.now) (λ s. FailsBraces tokens.now depth s) }
 {
     let Some(open) = after(tokens, Class::Mark(Mark::OpenBrace)) else {
         return Err(Stop::Syntax(tokens));
@@ -116,8 +88,8 @@ pub fn braces<'a>(
         return Err(Stop::TooDeep(tokens));
     }
     match inside(alloc, source, open.rest, depth) {
-        Ok(read) => Ok(BlockRead {
-            block: block_at(&open.token, read.statements),
+        Ok(read) => Ok(Read {
+            value: block_at(&open.value, read.value),
             rest: read.rest,
         }),
         Err(stop) => Err(stop),
@@ -131,29 +103,29 @@ fn inside<'a>(
     source: &[u8],
     tokens: &'a [Token],
     depth: u32,
-) -> Result<InsideRead<'a>, Stop<'a>>
+) -> Result<Read<'a, Vec<Stmt<Name, Raw<Name>>>>, Stop<'a>>
     requires { depth < 64 }
-    ensures { MatchResult result (λ r. ReadsInside source.now tokens.now depth r.statements.items r.rest.now) (λ s. FailsAt (Statements ∷ T (class_is.Mark mark.CloseBrace) ∷ []) tokens.now (depth + 1) 0 s) }
+    ensures { MatchResult result (λ r. ReadsInside source.now tokens.now depth r.value.items r.rest.now) (λ s. FailsAt (Statements ∷ T (class_is.Mark mark.CloseBrace) ∷ []) tokens.now (depth + 1) 0 s) }
 {
     let mut statements = Vec::new(alloc);
-    let mut front = tokens;
-    while begins_statement(front) {
-        match statement(alloc, source, front, depth + 1) {
+    let mut rest = tokens;
+    while begins_statement(rest) {
+        match statement(alloc, source, rest, depth + 1) {
             Ok(read) => {
-                if !add_statement(&mut statements, read.statement) {
+                if !add_statement(&mut statements, read.value) {
                     return Err(Stop::NoMemory);
                 }
-                front = read.rest;
+                rest = read.rest;
             }
             Err(stop) => return Err(stop),
         }
     }
-    match after(front, Class::Mark(Mark::CloseBrace)) {
-        Some(close) => Ok(InsideRead {
-            statements,
+    match after(rest, Class::Mark(Mark::CloseBrace)) {
+        Some(close) => Ok(Read {
+            value: statements,
             rest: close.rest,
         }),
-        None => Err(Stop::Syntax(front)),
+        None => Err(Stop::Syntax(rest)),
     }
 }
 
@@ -164,9 +136,9 @@ fn statement<'a>(
     source: &[u8],
     tokens: &'a [Token],
     depth: u32,
-) -> Result<StmtRead<'a>, Stop<'a>>
+) -> Result<Read<'a, Stmt<Name, Raw<Name>>>, Stop<'a>>
     requires { begins_statement tokens.now ≡ true }
-    ensures { MatchResult result (λ r. ReadsStmt source.now tokens.now depth r.statement r.rest.now) (λ s. FailsAt (Statements ∷ []) tokens.now depth 0 s) }
+    ensures { MatchResult result (λ r. ReadsStmt source.now tokens.now depth r.value r.rest.now) (λ s. FailsAt (Statements ∷ []) tokens.now depth 0 s) }
 {
     let Some((first, rest)) = tokens.split_first() else {
         unreachable!()
@@ -190,19 +162,19 @@ fn par<'a>(
     first: &Token,
     rest: &'a [Token],
     depth: u32,
-) -> Result<StmtRead<'a>, Stop<'a>>
+) -> Result<Read<'a, Stmt<Name, Raw<Name>>>, Stop<'a>>
     requires is { tokens.now ≡ first.now ∷ rest.now }
     requires role { start_of first.now.class ≡ start.Braces }
-    ensures { MatchResult result (λ r. ReadsStmt source.now tokens.now depth r.statement r.rest.now) (λ s. FailsAt (Statements ∷ []) tokens.now depth 0 s) }
+    ensures { MatchResult result (λ r. ReadsStmt source.now tokens.now depth r.value r.rest.now) (λ s. FailsAt (Statements ∷ []) tokens.now depth 0 s) }
 {
     match braces(alloc, source, tokens, depth) {
         Ok(read) => match others(alloc, source, read.rest, Mark::Either, depth) {
-            Ok(last) => Ok(StmtRead {
-                statement: placed(
+            Ok(last) => Ok(Read {
+                value: placed(
                     first,
                     Form::Par {
-                        first: read.block,
-                        others: Items::from_vec(last.others),
+                        first: read.value,
+                        others: Items::from_vec(last.value),
                     },
                 ),
                 rest: last.rest,
@@ -222,14 +194,14 @@ fn form<'a>(
     start: Start,
     rest: &'a [Token],
     depth: u32,
-) -> Result<StmtRead<'a>, Stop<'a>>
+) -> Result<Read<'a, Stmt<Name, Raw<Name>>>, Stop<'a>>
     requires role { start_of first.now.class ≡ start }
     requires form { is_form start ≡ true }
-    ensures { MatchResult result (λ r. ReadsForm source.now first.now start rest.now depth r.statement r.rest.now) (λ s. FailsAt (tail_of start) rest.now depth 0 s) }
+    ensures { MatchResult result (λ r. ReadsForm source.now first.now start rest.now depth r.value r.rest.now) (λ s. FailsAt (tail_of start) rest.now depth 0 s) }
 {
     match start {
-        Start::Empty => Ok(StmtRead {
-            statement: placed(first, Form::Empty),
+        Start::Empty => Ok(Read {
+            value: placed(first, Form::Empty),
             rest,
         }),
         Start::Still => still(first, rest, depth),
@@ -261,20 +233,20 @@ fn branch<'a>(
     first: &Token,
     rest: &'a [Token],
     depth: u32,
-) -> Result<StmtRead<'a>, Stop<'a>>
+) -> Result<Read<'a, Stmt<Name, Raw<Name>>>, Stop<'a>>
     requires { start_of first.now.class ≡ start.If }
-    ensures { MatchResult result (λ r. ReadsForm source.now first.now start.If rest.now depth r.statement r.rest.now) (λ s. FailsAt (tail_of start.If) rest.now depth 0 s) }
+    ensures { MatchResult result (λ r. ReadsForm source.now first.now start.If rest.now depth r.value r.rest.now) (λ s. FailsAt (tail_of start.If) rest.now depth 0 s) }
 {
     match read_parens(alloc, source, rest, depth) {
         Ok(cond) => match braces(alloc, source, cond.rest, depth) {
             Ok(yes) => match other(alloc, source, yes.rest, depth) {
-                Ok(last) => Ok(StmtRead {
-                    statement: placed(
+                Ok(last) => Ok(Read {
+                    value: placed(
                         first,
                         Form::If {
                             cond: cond.value,
-                            yes: yes.block,
-                            other: last.other,
+                            yes: yes.value,
+                            other: last.value,
                         },
                     ),
                     rest: last.rest,
@@ -295,20 +267,20 @@ fn present<'a>(
     first: &Token,
     rest: &'a [Token],
     depth: u32,
-) -> Result<StmtRead<'a>, Stop<'a>>
+) -> Result<Read<'a, Stmt<Name, Raw<Name>>>, Stop<'a>>
     requires { start_of first.now.class ≡ start.Present }
-    ensures { MatchResult result (λ r. ReadsForm source.now first.now start.Present rest.now depth r.statement r.rest.now) (λ s. FailsAt (tail_of start.Present) rest.now depth 0 s) }
+    ensures { MatchResult result (λ r. ReadsForm source.now first.now start.Present rest.now depth r.value r.rest.now) (λ s. FailsAt (tail_of start.Present) rest.now depth 0 s) }
 {
     match read_test_parens(alloc, source, rest, depth) {
         Ok(guard) => match braces(alloc, source, guard.rest, depth) {
             Ok(yes) => match other(alloc, source, yes.rest, depth) {
-                Ok(last) => Ok(StmtRead {
-                    statement: placed(
+                Ok(last) => Ok(Read {
+                    value: placed(
                         first,
                         Form::Present {
-                            test: guard.test,
-                            yes: yes.block,
-                            other: last.other,
+                            test: guard.value,
+                            yes: yes.value,
+                            other: last.value,
                         },
                     ),
                     rest: last.rest,
@@ -329,14 +301,14 @@ fn repeat<'a>(
     first: &Token,
     rest: &'a [Token],
     depth: u32,
-) -> Result<StmtRead<'a>, Stop<'a>>
+) -> Result<Read<'a, Stmt<Name, Raw<Name>>>, Stop<'a>>
     requires { start_of first.now.class ≡ start.While }
-    ensures { MatchResult result (λ r. ReadsForm source.now first.now start.While rest.now depth r.statement r.rest.now) (λ s. FailsAt (tail_of start.While) rest.now depth 0 s) }
+    ensures { MatchResult result (λ r. ReadsForm source.now first.now start.While rest.now depth r.value r.rest.now) (λ s. FailsAt (tail_of start.While) rest.now depth 0 s) }
 {
     match read_true(rest, depth) {
         Ok(inner) => match braces(alloc, source, inner, depth) {
-            Ok(body) => Ok(StmtRead {
-                statement: placed(first, Form::While(body.block)),
+            Ok(body) => Ok(Read {
+                value: placed(first, Form::While(body.value)),
                 rest: body.rest,
             }),
             Err(stop) => Err(stop),
@@ -353,19 +325,22 @@ fn guarded<'a>(
     first: &Token,
     rest: &'a [Token],
     depth: u32,
-) -> Result<StmtRead<'a>, Stop<'a>>
+) -> Result<Read<'a, Stmt<Name, Raw<Name>>>, Stop<'a>>
     requires { start_of first.now.class ≡ start.Guarded }
-    ensures { MatchResult result (λ r. ReadsForm source.now first.now start.Guarded rest.now depth r.statement r.rest.now) (λ s. FailsAt (tail_of start.Guarded) rest.now depth 0 s) }
+    ensures { MatchResult result (λ r. ReadsForm source.now first.now start.Guarded rest.now depth r.value r.rest.now) (λ s. FailsAt (tail_of start.Guarded) rest.now depth 0 s) }
 {
     match read_guard(alloc, source, rest, depth) {
         Ok(guard) => match braces(alloc, source, guard.rest, depth) {
-            Ok(body) => Ok(StmtRead {
-                statement: placed(
-                    first,
-                    guarded_form(first.class, guard.immediate, guard.test, body.block),
-                ),
-                rest: body.rest,
-            }),
+            Ok(body) => {
+                let Guard { immediate, test } = guard.value;
+                Ok(Read {
+                    value: placed(
+                        first,
+                        guarded_form(first.class, immediate, test, body.value),
+                    ),
+                    rest: body.rest,
+                })
+            }
             Err(stop) => Err(stop),
         },
         Err(stop) => Err(stop),
@@ -380,25 +355,28 @@ fn weak<'a>(
     first: &Token,
     rest: &'a [Token],
     depth: u32,
-) -> Result<StmtRead<'a>, Stop<'a>>
+) -> Result<Read<'a, Stmt<Name, Raw<Name>>>, Stop<'a>>
     requires { start_of first.now.class ≡ start.Weak }
-    ensures { MatchResult result (λ r. ReadsForm source.now first.now start.Weak rest.now depth r.statement r.rest.now) (λ s. FailsAt (tail_of start.Weak) rest.now depth 0 s) }
+    ensures { MatchResult result (λ r. ReadsForm source.now first.now start.Weak rest.now depth r.value r.rest.now) (λ s. FailsAt (tail_of start.Weak) rest.now depth 0 s) }
 {
     match expect(rest, Class::Reserved(Word::Abort)) {
         Ok(keyword) => match read_guard(alloc, source, keyword.rest, depth) {
             Ok(guard) => match braces(alloc, source, guard.rest, depth) {
-                Ok(body) => Ok(StmtRead {
-                    statement: placed(
-                        first,
-                        Form::Abort {
-                            weak: true,
-                            immediate: guard.immediate,
-                            test: guard.test,
-                            body: body.block,
-                        },
-                    ),
-                    rest: body.rest,
-                }),
+                Ok(body) => {
+                    let Guard { immediate, test } = guard.value;
+                    Ok(Read {
+                        value: placed(
+                            first,
+                            Form::Abort {
+                                weak: true,
+                                immediate,
+                                test,
+                                body: body.value,
+                            },
+                        ),
+                        rest: body.rest,
+                    })
+                }
                 Err(stop) => Err(stop),
             },
             Err(stop) => Err(stop),
@@ -415,19 +393,19 @@ fn trap<'a>(
     first: &Token,
     rest: &'a [Token],
     depth: u32,
-) -> Result<StmtRead<'a>, Stop<'a>>
+) -> Result<Read<'a, Stmt<Name, Raw<Name>>>, Stop<'a>>
     requires { start_of first.now.class ≡ start.Trap }
-    ensures { MatchResult result (λ r. ReadsForm source.now first.now start.Trap rest.now depth r.statement r.rest.now) (λ s. FailsAt (tail_of start.Trap) rest.now depth 0 s) }
+    ensures { MatchResult result (λ r. ReadsForm source.now first.now start.Trap rest.now depth r.value r.rest.now) (λ s. FailsAt (tail_of start.Trap) rest.now depth 0 s) }
 {
     match read_named(alloc, source, rest, depth) {
         Ok(named) => match braces(alloc, source, named.rest, depth) {
-            Ok(body) => Ok(StmtRead {
-                statement: placed(
+            Ok(body) => Ok(Read {
+                value: placed(
                     first,
                     Form::Trap {
-                        name_at: named.name.at,
-                        name: named.name,
-                        body: body.block,
+                        name_at: named.value.at,
+                        name: named.value,
+                        body: body.value,
                     },
                 ),
                 rest: body.rest,
@@ -446,20 +424,20 @@ fn looped<'a>(
     first: &Token,
     rest: &'a [Token],
     depth: u32,
-) -> Result<StmtRead<'a>, Stop<'a>>
+) -> Result<Read<'a, Stmt<Name, Raw<Name>>>, Stop<'a>>
     requires { start_of first.now.class ≡ start.Loop }
-    ensures { MatchResult result (λ r. ReadsForm source.now first.now start.Loop rest.now depth r.statement r.rest.now) (λ s. FailsAt (tail_of start.Loop) rest.now depth 0 s) }
+    ensures { MatchResult result (λ r. ReadsForm source.now first.now start.Loop rest.now depth r.value r.rest.now) (λ s. FailsAt (tail_of start.Loop) rest.now depth 0 s) }
 {
     match braces(alloc, source, rest, depth) {
         Ok(body) => match expect(body.rest, Class::Reserved(Word::Each)) {
             Ok(each) => match read_test_parens(alloc, source, each.rest, depth) {
                 Ok(guard) => match expect(guard.rest, Class::Mark(Mark::Semicolon)) {
-                    Ok(end) => Ok(StmtRead {
-                        statement: placed(
+                    Ok(end) => Ok(Read {
+                        value: placed(
                             first,
                             Form::Loop {
-                                body: body.block,
-                                test: guard.test,
+                                body: body.value,
+                                test: guard.value,
                             },
                         ),
                         rest: end.rest,
@@ -481,18 +459,18 @@ fn other<'a>(
     source: &[u8],
     tokens: &'a [Token],
     depth: u32,
-) -> Result<OtherRead<'a>, Stop<'a>>
-    ensures { MatchResult result (λ r. ReadsOther source.now tokens.now depth r.other r.rest.now) (λ s. FailsAt (ElsePart ∷ []) tokens.now depth 0 s) }
+) -> Result<Read<'a, Option<Block<Name, Raw<Name>>>>, Stop<'a>>
+    ensures { MatchResult result (λ r. ReadsOther source.now tokens.now depth r.value r.rest.now) (λ s. FailsAt (ElsePart ∷ []) tokens.now depth 0 s) }
 {
     let Some(keyword) = else_at(tokens) else {
-        return Ok(OtherRead {
-            other: None,
+        return Ok(Read {
+            value: None,
             rest: tokens,
         });
     };
     match braces(alloc, source, keyword.rest, depth) {
-        Ok(read) => Ok(OtherRead {
-            other: Some(read.block),
+        Ok(read) => Ok(Read {
+            value: Some(read.value),
             rest: read.rest,
         }),
         Err(stop) => Err(stop),
@@ -507,25 +485,25 @@ pub fn others<'a>(
     tokens: &'a [Token],
     between: Mark,
     depth: u32,
-) -> Result<OthersRead<'a>, Stop<'a>>
+) -> Result<Read<'a, Vec<Block<Name, Raw<Name>>>>, Stop<'a>>
     requires { is_between between ≡ true }
-    ensures { MatchResult result (λ r. ReadsOthers source.now tokens.now between depth r.others.items r.rest.now) (λ s. FailsAt (OthersPart between ∷ []) tokens.now depth 0 s) }
+    ensures { MatchResult result (λ r. ReadsOthers source.now tokens.now between depth r.value.items r.rest.now) (λ s. FailsAt (OthersPart between ∷ []) tokens.now depth 0 s) }
 {
     let mut blocks = Vec::new(alloc);
-    let mut front = tokens;
-    while let Some(sign) = beside_at(front, between) {
+    let mut rest = tokens;
+    while let Some(sign) = beside_at(rest, between) {
         match braces(alloc, source, sign.rest, depth) {
             Ok(read) => {
-                if !add_block(&mut blocks, read.block) {
+                if !add_block(&mut blocks, read.value) {
                     return Err(Stop::NoMemory);
                 }
-                front = read.rest;
+                rest = read.rest;
             }
             Err(stop) => return Err(stop),
         }
     }
-    Ok(OthersRead {
-        others: blocks,
-        rest: front,
+    Ok(Read {
+        value: blocks,
+        rest,
     })
 }

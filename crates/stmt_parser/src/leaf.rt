@@ -5,41 +5,32 @@ ghost use Rattle.sj_lexer.specs.declared.token.Word.TheVariants as word;
 ghost use Rattle.sj_grammar.specs.declared.role.Start.TheVariants as start;
 ghost use Rattle.sj_grammar.specs.definitions.Roles.{start_of};
 ghost use Rattle.sj_grammar.specs.definitions.Machine.{T, AfterKind, CombinePart};
-ghost use Rattle.expr_parser.specs.Reading.{BeginsNot, FailsAt};
+ghost use Rattle.expr_parser.specs.Reading.{IsNotFirst, FailsAt};
 ghost use Rattle.stmt_parser.specs.Reading.{tail_of, ReadsForm, ReadsValued};
 
 use crate::make::{assign_form, emission_form, placed, still_form};
 use crate::pieces::{expect, read_combined, read_name, read_name_end, read_named};
-use crate::values::{read_assign, read_given, read_guard, read_parens, read_value};
-use expr_parser::front::{Stop, after};
+use crate::values::{Guard, read_assign, read_given, read_guard, read_parens, read_value};
+use expr_parser::head::after;
+use expr_parser::read::{Read, Stop};
 use expr_parser::tree::name_of;
 use java_values::Kind;
 use sj_ast::{Form, Name, Raw, Signal, Stmt, Valued};
 use sj_lexer::{Class, Mark, Token, Word};
 use std::alloc::Global;
 
-/// A statement, and the tokens behind it.
-#[derive(Drop)]
-pub struct StmtRead<'a> {
-    pub statement: Stmt<Name, Raw<Name>>,
-    pub rest: &'a [Token],
-}
-
-/// A declared signal, and the tokens behind it.
-#[derive(Drop)]
-pub struct SignalRead<'a> {
-    pub signal: Signal<Name>,
-    pub rest: &'a [Token],
-}
-
 /// `pause` and `halt`
-pub fn still<'a>(first: &Token, rest: &'a [Token], depth: u32) -> Result<StmtRead<'a>, Stop<'a>>
+pub fn still<'a>(
+    first: &Token,
+    rest: &'a [Token],
+    depth: u32,
+) -> Result<Read<'a, Stmt<Name, Raw<Name>>>, Stop<'a>>
     requires { start_of first.now.class ≡ start.Still }
-    ensures { MatchResult result (λ r. (source : List ℕ) → ReadsForm source first.now start.Still rest.now depth r.statement r.rest.now) (λ s. FailsAt (tail_of start.Still) rest.now depth 0 s) }
+    ensures { MatchResult result (λ r. (source : List ℕ) → ReadsForm source first.now start.Still rest.now depth r.value r.rest.now) (λ s. FailsAt (tail_of start.Still) rest.now depth 0 s) }
 {
     match expect(rest, Class::Mark(Mark::Semicolon)) {
-        Ok(end) => Ok(StmtRead {
-            statement: placed(first, still_form(first.class)),
+        Ok(end) => Ok(Read {
+            value: placed(first, still_form(first.class)),
             rest: end.rest,
         }),
         Err(stop) => Err(stop),
@@ -53,15 +44,15 @@ pub fn emit<'a>(
     first: &Token,
     rest: &'a [Token],
     depth: u32,
-) -> Result<StmtRead<'a>, Stop<'a>>
+) -> Result<Read<'a, Stmt<Name, Raw<Name>>>, Stop<'a>>
     requires role { start_of first.now.class ≡ start.Emit }
-    ensures { MatchResult result (λ r. ReadsForm source.now first.now start.Emit rest.now depth r.statement r.rest.now) (λ s. FailsAt (tail_of start.Emit) rest.now depth 0 s) }
+    ensures { MatchResult result (λ r. ReadsForm source.now first.now start.Emit rest.now depth r.value r.rest.now) (λ s. FailsAt (tail_of start.Emit) rest.now depth 0 s) }
 {
     match read_name(alloc, source, rest, depth) {
         Ok(named) => match read_given(alloc, source, named.rest, depth) {
             Ok(given) => match expect(given.rest, Class::Mark(Mark::Semicolon)) {
-                Ok(end) => Ok(StmtRead {
-                    statement: placed(first, emission_form(first.class, named.name, given.value)),
+                Ok(end) => Ok(Read {
+                    value: placed(first, emission_form(first.class, named.value, given.value)),
                     rest: end.rest,
                 }),
                 Err(stop) => Err(stop),
@@ -79,17 +70,17 @@ pub fn local_signal<'a>(
     first: &Token,
     rest: &'a [Token],
     depth: u32,
-) -> Result<StmtRead<'a>, Stop<'a>>
+) -> Result<Read<'a, Stmt<Name, Raw<Name>>>, Stop<'a>>
     requires role { start_of first.now.class ≡ start.Signal }
-    ensures { MatchResult result (λ r. ReadsForm source.now first.now start.Signal rest.now depth r.statement r.rest.now) (λ s. FailsAt (tail_of start.Signal) rest.now depth 0 s) }
+    ensures { MatchResult result (λ r. ReadsForm source.now first.now start.Signal rest.now depth r.value r.rest.now) (λ s. FailsAt (tail_of start.Signal) rest.now depth 0 s) }
 {
     match read_name_end(alloc, source, rest, depth) {
-        Ok(named) => Ok(StmtRead {
-            statement: placed(
+        Ok(named) => Ok(Read {
+            value: placed(
                 first,
                 Form::Declare(Signal {
-                    at: named.name.at,
-                    name: named.name,
+                    at: named.value.at,
+                    name: named.value,
                     valued: None,
                 }),
             ),
@@ -106,19 +97,19 @@ pub fn read_valued<'a>(
     kind: Kind,
     tokens: &'a [Token],
     depth: u32,
-) -> Result<SignalRead<'a>, Stop<'a>>
-    ensures { MatchResult result (λ r. ReadsValued source.now kind tokens.now depth r.signal r.rest.now) (λ s. FailsAt (T class_is.Name ∷ CombinePart ∷ T (class_is.Mark mark.Semicolon) ∷ []) tokens.now depth 0 s) }
+) -> Result<Read<'a, Signal<Name>>, Stop<'a>>
+    ensures { MatchResult result (λ r. ReadsValued source.now kind tokens.now depth r.value r.rest.now) (λ s. FailsAt (T class_is.Name ∷ CombinePart ∷ T (class_is.Mark mark.Semicolon) ∷ []) tokens.now depth 0 s) }
 {
     match read_name(alloc, source, tokens, depth) {
         Ok(named) => match read_combined(named.rest, depth) {
             Ok(read) => match expect(read.rest, Class::Mark(Mark::Semicolon)) {
-                Ok(end) => Ok(SignalRead {
-                    signal: Signal {
-                        at: named.name.at,
-                        name: named.name,
+                Ok(end) => Ok(Read {
+                    value: Signal {
+                        at: named.value.at,
+                        name: named.value,
                         valued: Some(Valued {
                             kind,
-                            combine: read.combine,
+                            combine: read.value,
                         }),
                     },
                     rest: end.rest,
@@ -139,22 +130,22 @@ fn variable<'a>(
     kind: Kind,
     rest: &'a [Token],
     depth: u32,
-) -> Result<StmtRead<'a>, Stop<'a>>
+) -> Result<Read<'a, Stmt<Name, Raw<Name>>>, Stop<'a>>
     requires role { start_of first.now.class ≡ start.Kind kind }
-    requires no_signal { BeginsNot (class_is.Reserved word.Signal) rest.now }
-    ensures { MatchResult result (λ r. ReadsForm source.now first.now (start.Kind kind) rest.now depth r.statement r.rest.now) (λ s. FailsAt (tail_of (start.Kind kind)) rest.now depth 0 s) }
+    requires no_signal { IsNotFirst (class_is.Reserved word.Signal) rest.now }
+    ensures { MatchResult result (λ r. ReadsForm source.now first.now (start.Kind kind) rest.now depth r.value r.rest.now) (λ s. FailsAt (tail_of (start.Kind kind)) rest.now depth 0 s) }
 {
     match read_name(alloc, source, rest, depth) {
         Ok(named) => match expect(named.rest, Class::Mark(Mark::Assign)) {
             Ok(sign) => match read_value(alloc, source, sign.rest, depth) {
                 Ok(read) => match expect(read.rest, Class::Mark(Mark::Semicolon)) {
-                    Ok(end) => Ok(StmtRead {
-                        statement: placed(
+                    Ok(end) => Ok(Read {
+                        value: placed(
                             first,
                             Form::Variable {
                                 kind,
-                                name_at: named.name.at,
-                                name: named.name,
+                                name_at: named.value.at,
+                                name: named.value,
                                 value: read.value,
                             },
                         ),
@@ -178,14 +169,14 @@ pub fn kinded<'a>(
     kind: Kind,
     rest: &'a [Token],
     depth: u32,
-) -> Result<StmtRead<'a>, Stop<'a>>
+) -> Result<Read<'a, Stmt<Name, Raw<Name>>>, Stop<'a>>
     requires role { start_of first.now.class ≡ start.Kind kind }
-    ensures { MatchResult result (λ r. ReadsForm source.now first.now (start.Kind kind) rest.now depth r.statement r.rest.now) (λ s. FailsAt (tail_of (start.Kind kind)) rest.now depth 0 s) }
+    ensures { MatchResult result (λ r. ReadsForm source.now first.now (start.Kind kind) rest.now depth r.value r.rest.now) (λ s. FailsAt (tail_of (start.Kind kind)) rest.now depth 0 s) }
 {
     match after(rest, Class::Reserved(Word::Signal)) {
         Some(keyword) => match read_valued(alloc, source, kind, keyword.rest, depth) {
-            Ok(read) => Ok(StmtRead {
-                statement: placed(first, Form::Declare(read.signal)),
+            Ok(read) => Ok(Read {
+                value: placed(first, Form::Declare(read.value)),
                 rest: read.rest,
             }),
             Err(stop) => Err(stop),
@@ -201,9 +192,9 @@ pub fn assign<'a>(
     first: &Token,
     rest: &'a [Token],
     depth: u32,
-) -> Result<StmtRead<'a>, Stop<'a>>
+) -> Result<Read<'a, Stmt<Name, Raw<Name>>>, Stop<'a>>
     requires role { start_of first.now.class ≡ start.Name }
-    ensures { MatchResult result (λ r. ReadsForm source.now first.now start.Name rest.now depth r.statement r.rest.now) (λ s. FailsAt (tail_of start.Name) rest.now depth 0 s) }
+    ensures { MatchResult result (λ r. ReadsForm source.now first.now start.Name rest.now depth r.value r.rest.now) (λ s. FailsAt (tail_of start.Name) rest.now depth 0 s) }
 {
     let name = match name_of(alloc, source, first) {
         Ok(name) => name,
@@ -212,8 +203,11 @@ pub fn assign<'a>(
     match read_assign(rest, depth) {
         Ok(sign) => match read_value(alloc, source, sign.rest, depth) {
             Ok(read) => match expect(read.rest, Class::Mark(Mark::Semicolon)) {
-                Ok(end) => Ok(StmtRead {
-                    statement: placed(first, assign_form(sign.op, name, sign.at, read.value)),
+                Ok(end) => Ok(Read {
+                    value: placed(
+                        first,
+                        assign_form(sign.value.op, name, sign.value.at, read.value),
+                    ),
                     rest: end.rest,
                 }),
                 Err(stop) => Err(stop),
@@ -231,18 +225,18 @@ pub fn exit<'a>(
     first: &Token,
     rest: &'a [Token],
     depth: u32,
-) -> Result<StmtRead<'a>, Stop<'a>>
+) -> Result<Read<'a, Stmt<Name, Raw<Name>>>, Stop<'a>>
     requires role { start_of first.now.class ≡ start.Exit }
-    ensures { MatchResult result (λ r. ReadsForm source.now first.now start.Exit rest.now depth r.statement r.rest.now) (λ s. FailsAt (tail_of start.Exit) rest.now depth 0 s) }
+    ensures { MatchResult result (λ r. ReadsForm source.now first.now start.Exit rest.now depth r.value r.rest.now) (λ s. FailsAt (tail_of start.Exit) rest.now depth 0 s) }
 {
     match read_named(alloc, source, rest, depth) {
         Ok(named) => match expect(named.rest, Class::Mark(Mark::Semicolon)) {
-            Ok(end) => Ok(StmtRead {
-                statement: placed(
+            Ok(end) => Ok(Read {
+                value: placed(
                     first,
                     Form::Exit {
-                        name_at: named.name.at,
-                        name: named.name,
+                        name_at: named.value.at,
+                        name: named.value,
                     },
                 ),
                 rest: end.rest,
@@ -260,19 +254,19 @@ pub fn send<'a>(
     first: &Token,
     rest: &'a [Token],
     depth: u32,
-) -> Result<StmtRead<'a>, Stop<'a>>
+) -> Result<Read<'a, Stmt<Name, Raw<Name>>>, Stop<'a>>
     requires role { start_of first.now.class ≡ start.Send }
-    ensures { MatchResult result (λ r. ReadsForm source.now first.now start.Send rest.now depth r.statement r.rest.now) (λ s. FailsAt (tail_of start.Send) rest.now depth 0 s) }
+    ensures { MatchResult result (λ r. ReadsForm source.now first.now start.Send rest.now depth r.value r.rest.now) (λ s. FailsAt (tail_of start.Send) rest.now depth 0 s) }
 {
     match read_name(alloc, source, rest, depth) {
         Ok(named) => match read_parens(alloc, source, named.rest, depth) {
             Ok(read) => match expect(read.rest, Class::Mark(Mark::Semicolon)) {
-                Ok(end) => Ok(StmtRead {
-                    statement: placed(
+                Ok(end) => Ok(Read {
+                    value: placed(
                         first,
                         Form::Send {
-                            name_at: named.name.at,
-                            name: named.name,
+                            name_at: named.value.at,
+                            name: named.value,
                             value: read.value,
                         },
                     ),
@@ -293,17 +287,17 @@ pub fn receive<'a>(
     first: &Token,
     rest: &'a [Token],
     depth: u32,
-) -> Result<StmtRead<'a>, Stop<'a>>
+) -> Result<Read<'a, Stmt<Name, Raw<Name>>>, Stop<'a>>
     requires role { start_of first.now.class ≡ start.Receive }
-    ensures { MatchResult result (λ r. ReadsForm source.now first.now start.Receive rest.now depth r.statement r.rest.now) (λ s. FailsAt (tail_of start.Receive) rest.now depth 0 s) }
+    ensures { MatchResult result (λ r. ReadsForm source.now first.now start.Receive rest.now depth r.value r.rest.now) (λ s. FailsAt (tail_of start.Receive) rest.now depth 0 s) }
 {
     match read_name_end(alloc, source, rest, depth) {
-        Ok(named) => Ok(StmtRead {
-            statement: placed(
+        Ok(named) => Ok(Read {
+            value: placed(
                 first,
                 Form::Receive {
-                    name_at: named.name.at,
-                    name: named.name,
+                    name_at: named.value.at,
+                    name: named.value,
                 },
             ),
             rest: named.rest,
@@ -319,22 +313,19 @@ pub fn await_test<'a>(
     first: &Token,
     rest: &'a [Token],
     depth: u32,
-) -> Result<StmtRead<'a>, Stop<'a>>
+) -> Result<Read<'a, Stmt<Name, Raw<Name>>>, Stop<'a>>
     requires role { start_of first.now.class ≡ start.Await }
-    ensures { MatchResult result (λ r. ReadsForm source.now first.now start.Await rest.now depth r.statement r.rest.now) (λ s. FailsAt (tail_of start.Await) rest.now depth 0 s) }
+    ensures { MatchResult result (λ r. ReadsForm source.now first.now start.Await rest.now depth r.value r.rest.now) (λ s. FailsAt (tail_of start.Await) rest.now depth 0 s) }
 {
     match read_guard(alloc, source, rest, depth) {
         Ok(guard) => match expect(guard.rest, Class::Mark(Mark::Semicolon)) {
-            Ok(end) => Ok(StmtRead {
-                statement: placed(
-                    first,
-                    Form::Await {
-                        immediate: guard.immediate,
-                        test: guard.test,
-                    },
-                ),
-                rest: end.rest,
-            }),
+            Ok(end) => {
+                let Guard { immediate, test } = guard.value;
+                Ok(Read {
+                    value: placed(first, Form::Await { immediate, test }),
+                    rest: end.rest,
+                })
+            }
             Err(stop) => Err(stop),
         },
         Err(stop) => Err(stop),

@@ -1,11 +1,10 @@
-ghost use Rattle.std.specs.Prelude.{◌≡◌, ◌≤◌, length, MatchResult};
-ghost use Rattle.expr_parser.specs.definitions.Longest.{place_of};
+ghost use Rattle.std.specs.Prelude.{◌≤◌, length, MatchResult};
 ghost use Rattle.stmt_parser.specs.definitions.Parsing.{IsTreeOf, IsNoProgram};
 ghost use Rattle.stmt_parser.specs.Reading.{Stops};
 
 use crate::program::read_program;
-use expr_parser::ParseError;
-use expr_parser::front::Stop;
+use expr_parser::read::Stop;
+use expr_parser::{ParseError, place_of};
 use sj_ast::{Name, Raw, Tree};
 use sj_lexer::Token;
 use std::alloc::Global;
@@ -20,21 +19,10 @@ fn whole<'a>(
 {
     match read_program(alloc, source, tokens) {
         Ok(read) => match read.rest {
-            [] => Ok(read.tree),
+            [] => Ok(read.value),
             [_, ..] => Err(Stop::Syntax(read.rest)),
         },
         Err(stop) => Err(stop),
-    }
-}
-
-/// The place of the first of these tokens, or the end of the source.
-fn place_of(tokens: &[Token], source: &[u8]) -> u32
-    requires { length source.now ≤ 1048576 }
-    ensures { result ≡ place_of tokens.now (length source.now) }
-{
-    match tokens.split_first() {
-        Some((first, _)) => first.start,
-        None => source.len() as u32,
     }
 }
 

@@ -7,28 +7,15 @@ ghost use Rattle.sj_grammar.specs.definitions.Machine.{T, PortList, SignalPart};
 ghost use Rattle.expr_parser.specs.Reading.{FailsAt};
 ghost use Rattle.stmt_parser.specs.Reading.{begins_port, ReadsDeclared, ReadsPort, ReadsPorts};
 
-use crate::leaf::{SignalRead, read_valued};
+use crate::leaf::read_valued;
 use crate::pieces::{expect, read_name_end};
-use expr_parser::front::{Stop, after, kind_at};
+use expr_parser::head::{after, kind_at};
+use expr_parser::read::{Read, Stop};
 use java_values::Kind;
 use sj_ast::{ChannelPort, Direction, Name, Port, Signal, SignalPort};
 use sj_grammar::{direction_of, kind_of};
 use sj_lexer::{Class, Token, Word};
 use std::alloc::Global;
-
-/// A port, and the tokens behind it.
-#[derive(Drop)]
-struct PortRead<'a> {
-    port: Port<Name>,
-    rest: &'a [Token],
-}
-
-/// Ports, and the tokens behind them.
-#[derive(Drop)]
-pub struct PortsRead<'a> {
-    pub ports: Vec<Port<Name>>,
-    pub rest: &'a [Token],
-}
 
 fn begins_port(tokens: &[Token]) -> bool
     ensures { result ≡ begins_port tokens.now }
@@ -51,15 +38,15 @@ fn declared<'a>(
     source: &[u8],
     tokens: &'a [Token],
     depth: u32,
-) -> Result<SignalRead<'a>, Stop<'a>>
-    ensures { MatchResult result (λ r. ReadsDeclared source.now tokens.now depth r.signal r.rest.now) (λ s. FailsAt (SignalPart ∷ []) tokens.now depth 0 s) }
+) -> Result<Read<'a, Signal<Name>>, Stop<'a>>
+    ensures { MatchResult result (λ r. ReadsDeclared source.now tokens.now depth r.value r.rest.now) (λ s. FailsAt (SignalPart ∷ []) tokens.now depth 0 s) }
 {
     if let Some(keyword) = after(tokens, Class::Reserved(Word::Signal)) {
         return match read_name_end(alloc, source, keyword.rest, depth) {
-            Ok(read) => Ok(SignalRead {
-                signal: Signal {
-                    at: read.name.at,
-                    name: read.name,
+            Ok(read) => Ok(Read {
+                value: Signal {
+                    at: read.value.at,
+                    name: read.value,
                     valued: None,
                 },
                 rest: read.rest,
@@ -71,7 +58,7 @@ fn declared<'a>(
         return Err(Stop::Syntax(tokens));
     };
     match expect(kinded.rest, Class::Reserved(Word::Signal)) {
-        Ok(keyword) => match read_valued(alloc, source, kinded.kind, keyword.rest, depth) {
+        Ok(keyword) => match read_valued(alloc, source, kinded.value, keyword.rest, depth) {
             Ok(read) => Ok(read),
             Err(stop) => Err(stop),
         },
@@ -88,16 +75,16 @@ fn signal_port<'a>(
     direction: Direction,
     rest: &'a [Token],
     depth: u32,
-) -> Result<PortRead<'a>, Stop<'a>>
+) -> Result<Read<'a, Port<Name>>, Stop<'a>>
     requires is { tokens.now ≡ first.now ∷ rest.now }
     requires role { direction_of first.now.class ≡ Some direction }
-    ensures { MatchResult result (λ r. ReadsPort source.now tokens.now depth r.port r.rest.now) (λ s. FailsAt (PortList ∷ []) tokens.now depth 0 s) }
+    ensures { MatchResult result (λ r. ReadsPort source.now tokens.now depth r.value r.rest.now) (λ s. FailsAt (PortList ∷ []) tokens.now depth 0 s) }
 {
     match declared(alloc, source, rest, depth) {
-        Ok(read) => Ok(PortRead {
-            port: Port::Signal(SignalPort {
+        Ok(read) => Ok(Read {
+            value: Port::Signal(SignalPort {
                 direction,
-                signal: read.signal,
+                signal: read.value,
             }),
             rest: read.rest,
         }),
@@ -114,18 +101,18 @@ fn channel_port<'a>(
     kind: Kind,
     rest: &'a [Token],
     depth: u32,
-) -> Result<PortRead<'a>, Stop<'a>>
+) -> Result<Read<'a, Port<Name>>, Stop<'a>>
     requires is { tokens.now ≡ first.now ∷ rest.now }
     requires role { kind_of first.now.class ≡ Some kind }
-    ensures { MatchResult result (λ r. ReadsPort source.now tokens.now depth r.port r.rest.now) (λ s. FailsAt (PortList ∷ []) tokens.now depth 0 s) }
+    ensures { MatchResult result (λ r. ReadsPort source.now tokens.now depth r.value r.rest.now) (λ s. FailsAt (PortList ∷ []) tokens.now depth 0 s) }
 {
     match expect(rest, Class::Reserved(Word::Channel)) {
         Ok(keyword) => match read_name_end(alloc, source, keyword.rest, depth) {
-            Ok(read) => Ok(PortRead {
-                port: Port::Channel(ChannelPort {
+            Ok(read) => Ok(Read {
+                value: Port::Channel(ChannelPort {
                     kind,
-                    at: read.name.at,
-                    name: read.name,
+                    at: read.value.at,
+                    name: read.value,
                 }),
                 rest: read.rest,
             }),
@@ -141,9 +128,9 @@ fn read_port<'a>(
     source: &[u8],
     tokens: &'a [Token],
     depth: u32,
-) -> Result<PortRead<'a>, Stop<'a>>
+) -> Result<Read<'a, Port<Name>>, Stop<'a>>
     requires { begins_port tokens.now ≡ true }
-    ensures { MatchResult result (λ r. ReadsPort source.now tokens.now depth r.port r.rest.now) (λ s. FailsAt (PortList ∷ []) tokens.now depth 0 s) }
+    ensures { MatchResult result (λ r. ReadsPort source.now tokens.now depth r.value r.rest.now) (λ s. FailsAt (PortList ∷ []) tokens.now depth 0 s) }
 {
     let Some((first, rest)) = tokens.split_first() else {
         unreachable!()
@@ -163,21 +150,21 @@ pub fn read_ports<'a>(
     source: &[u8],
     tokens: &'a [Token],
     depth: u32,
-) -> Result<PortsRead<'a>, Stop<'a>>
-    ensures { MatchResult result (λ r. ReadsPorts source.now tokens.now depth r.ports.items r.rest.now) (λ s. FailsAt (PortList ∷ []) tokens.now depth 0 s) }
+) -> Result<Read<'a, Vec<Port<Name>>>, Stop<'a>>
+    ensures { MatchResult result (λ r. ReadsPorts source.now tokens.now depth r.value.items r.rest.now) (λ s. FailsAt (PortList ∷ []) tokens.now depth 0 s) }
 {
     let mut ports = Vec::new(alloc);
-    let mut front = tokens;
-    while begins_port(front) {
-        match read_port(alloc, source, front, depth) {
+    let mut rest = tokens;
+    while begins_port(rest) {
+        match read_port(alloc, source, rest, depth) {
             Ok(read) => {
-                if !add_port(&mut ports, read.port) {
+                if !add_port(&mut ports, read.value) {
                     return Err(Stop::NoMemory);
                 }
-                front = read.rest;
+                rest = read.rest;
             }
             Err(stop) => return Err(stop),
         }
     }
-    Ok(PortsRead { ports, rest: front })
+    Ok(Read { value: ports, rest })
 }

@@ -6,29 +6,22 @@ ghost use Rattle.sj_grammar.specs.definitions.Machine.{T, PortList, InBraces, Ot
 ghost use Rattle.expr_parser.specs.Reading.{FailsAt};
 ghost use Rattle.stmt_parser.specs.Reading.{ReadsInterface, ReadsDomains, ReadsProgram};
 
-use crate::block::{OthersRead, braces, others};
+use crate::block::{braces, others};
 use crate::pieces::expect;
-use crate::ports::{PortsRead, read_ports};
-use expr_parser::front::Stop;
-use sj_ast::{Block, Name, Raw, Tree};
+use crate::ports::read_ports;
+use expr_parser::read::{Read, Stop};
+use sj_ast::{Block, Name, Port, Raw, Tree};
 use sj_lexer::{Class, Mark, Token, Word};
 use sqlite_items::Items;
 use std::alloc::Global;
-
-/// A program, and the tokens behind it.
-#[derive(Drop)]
-pub struct ProgramRead<'a> {
-    pub tree: Tree<Name, Raw<Name>>,
-    pub rest: &'a [Token],
-}
 
 /// `system` `{` `interface` `{` { port } `}`
 fn interface<'a>(
     alloc: Global,
     source: &[u8],
     tokens: &'a [Token],
-) -> Result<PortsRead<'a>, Stop<'a>>
-    ensures { MatchResult result (λ r. ReadsInterface source.now tokens.now r.ports.items r.rest.now) (λ s. FailsAt (T (class_is.Reserved word.System) ∷ T (class_is.Mark mark.OpenBrace) ∷ T (class_is.Reserved word.Interface) ∷ T (class_is.Mark mark.OpenBrace) ∷ PortList ∷ T (class_is.Mark mark.CloseBrace) ∷ []) tokens.now 0 0 s) }
+) -> Result<Read<'a, Vec<Port<Name>>>, Stop<'a>>
+    ensures { MatchResult result (λ r. ReadsInterface source.now tokens.now r.value.items r.rest.now) (λ s. FailsAt (T (class_is.Reserved word.System) ∷ T (class_is.Mark mark.OpenBrace) ∷ T (class_is.Reserved word.Interface) ∷ T (class_is.Mark mark.OpenBrace) ∷ PortList ∷ T (class_is.Mark mark.CloseBrace) ∷ []) tokens.now 0 0 s) }
 {
     match expect(tokens, Class::Reserved(Word::System)) {
         Ok(system) => match expect(system.rest, Class::Mark(Mark::OpenBrace)) {
@@ -36,8 +29,8 @@ fn interface<'a>(
                 Ok(word) => match expect(word.rest, Class::Mark(Mark::OpenBrace)) {
                     Ok(inner) => match read_ports(alloc, source, inner.rest, 2) {
                         Ok(read) => match expect(read.rest, Class::Mark(Mark::CloseBrace)) {
-                            Ok(close) => Ok(PortsRead {
-                                ports: read.ports,
+                            Ok(close) => Ok(Read {
+                                value: read.value,
                                 rest: close.rest,
                             }),
                             Err(stop) => Err(stop),
@@ -65,19 +58,19 @@ fn domains<'a>(
     alloc: Global,
     source: &[u8],
     tokens: &'a [Token],
-) -> Result<OthersRead<'a>, Stop<'a>>
-    ensures { MatchResult result (λ r. ReadsDomains source.now tokens.now r.others.items r.rest.now) (λ s. FailsAt (InBraces ∷ OthersPart mark.Beside ∷ T (class_is.Mark mark.CloseBrace) ∷ []) tokens.now 1 0 s) }
+) -> Result<Read<'a, Vec<Block<Name, Raw<Name>>>>, Stop<'a>>
+    ensures { MatchResult result (λ r. ReadsDomains source.now tokens.now r.value.items r.rest.now) (λ s. FailsAt (InBraces ∷ OthersPart mark.Beside ∷ T (class_is.Mark mark.CloseBrace) ∷ []) tokens.now 1 0 s) }
 {
     match braces(alloc, source, tokens, 1) {
         Ok(first) => match others(alloc, source, first.rest, Mark::Beside, 1) {
             Ok(read) => match expect(read.rest, Class::Mark(Mark::CloseBrace)) {
                 Ok(close) => {
-                    let mut blocks = read.others;
-                    if !put_first(&mut blocks, first.block) {
+                    let mut blocks = read.value;
+                    if !put_first(&mut blocks, first.value) {
                         return Err(Stop::NoMemory);
                     }
-                    Ok(OthersRead {
-                        others: blocks,
+                    Ok(Read {
+                        value: blocks,
                         rest: close.rest,
                     })
                 }
@@ -94,15 +87,15 @@ pub fn read_program<'a>(
     alloc: Global,
     source: &[u8],
     tokens: &'a [Token],
-) -> Result<ProgramRead<'a>, Stop<'a>>
-    ensures { MatchResult result (λ r. ReadsProgram source.now tokens.now r.tree r.rest.now) (λ s. FailsAt program tokens.now 0 0 s) }
+) -> Result<Read<'a, Tree<Name, Raw<Name>>>, Stop<'a>>
+    ensures { MatchResult result (λ r. ReadsProgram source.now tokens.now r.value r.rest.now) (λ s. FailsAt program tokens.now 0 0 s) }
 {
     match interface(alloc, source, tokens) {
-        Ok(front) => match domains(alloc, source, front.rest) {
-            Ok(read) => Ok(ProgramRead {
-                tree: Tree {
-                    ports: Items::from_vec(front.ports),
-                    domains: Items::from_vec(read.others),
+        Ok(ports) => match domains(alloc, source, ports.rest) {
+            Ok(read) => Ok(Read {
+                value: Tree {
+                    ports: Items::from_vec(ports.value),
+                    domains: Items::from_vec(read.value),
                 },
                 rest: read.rest,
             }),

@@ -3,12 +3,13 @@ ghost use Rattle.sj_lexer.specs.declared.token.Class.TheVariants as class_is;
 ghost use Rattle.sj_lexer.specs.declared.token.Mark.TheVariants as mark;
 ghost use Rattle.sj_lexer.specs.declared.token.Word.TheVariants as word;
 ghost use Rattle.sj_grammar.specs.definitions.Machine.{T, Operand, More, TestOperand, MoreTest, ImmediatePart, ValuePart, AssignSign};
-ghost use Rattle.expr_parser.specs.Reading.{IsFront, FailsAt};
+ghost use Rattle.expr_parser.specs.Reading.{IsFirst, FailsAt};
 ghost use Rattle.stmt_parser.specs.Reading.{ReadsValue, ReadsTest, ReadsClosed, ReadsClosedTest, ReadsParens, ReadsTestParens, ReadsGuard, ReadsTrue, ReadsGiven, ReadsAssignSign, Skips};
 
-use crate::pieces::{MOST_OPEN, expect};
-use expr_parser::expression::expression;
-use expr_parser::front::{Front, Stop, after};
+use crate::pieces::expect;
+use expr_parser::expression::{MOST_OPEN, expression};
+use expr_parser::head::after;
+use expr_parser::read::{Read, Stop};
 use expr_parser::test_parser::test_from;
 use java_values::Op2;
 use sj_ast::{Name, Raw, Test};
@@ -16,41 +17,18 @@ use sj_grammar::assign_of;
 use sj_lexer::{Class, Mark, Token, Word};
 use std::alloc::Global;
 
-/// An expression, and the tokens behind what was read.
+/// A test in parentheses, and whether `immediate` stands before it.
 #[derive(Drop)]
-pub struct ValueRead<'a> {
-    pub value: Raw<Name>,
-    pub rest: &'a [Token],
-}
-
-/// A test, and the tokens behind what was read.
-#[derive(Drop)]
-pub struct TestRead<'a> {
-    pub test: Test<Name>,
-    pub rest: &'a [Token],
-}
-
-/// A test in parentheses, and the tokens behind it.
-#[derive(Drop)]
-pub struct GuardRead<'a> {
+pub struct Guard {
     pub immediate: bool,
     pub test: Test<Name>,
-    pub rest: &'a [Token],
 }
 
-/// A value in parentheses, where there is one, and the tokens behind it.
-#[derive(Drop)]
-pub struct GivenRead<'a> {
-    pub value: Option<Raw<Name>>,
-    pub rest: &'a [Token],
-}
-
-/// The sign of an assignment, and the tokens behind it.
+/// The sign of an assignment: its operator, where it has one, and its place.
 #[derive(Clone, Copy)]
-pub struct AssignRead<'a> {
+pub struct Assignment {
     pub op: Option<Op2>,
     pub at: u32,
-    pub rest: &'a [Token],
 }
 
 /// An expression.
@@ -59,12 +37,12 @@ pub fn read_value<'a>(
     source: &[u8],
     tokens: &'a [Token],
     depth: u32,
-) -> Result<ValueRead<'a>, Stop<'a>>
+) -> Result<Read<'a, Raw<Name>>, Stop<'a>>
     ensures { MatchResult result (λ r. ReadsValue source.now tokens.now depth r.value r.rest.now) (λ s. FailsAt (Operand ∷ More ∷ []) tokens.now depth 0 s) }
 {
     match expression(alloc, source, tokens, 1, depth, 0) {
-        Ok(read) => Ok(ValueRead {
-            value: read.tree,
+        Ok(read) => Ok(Read {
+            value: read.value.tree,
             rest: read.rest,
         }),
         Err(stop) => Err(stop),
@@ -77,12 +55,12 @@ pub fn read_test<'a>(
     source: &[u8],
     tokens: &'a [Token],
     depth: u32,
-) -> Result<TestRead<'a>, Stop<'a>>
-    ensures { MatchResult result (λ r. ReadsTest source.now tokens.now depth r.test r.rest.now) (λ s. FailsAt (TestOperand ∷ MoreTest ∷ []) tokens.now depth 0 s) }
+) -> Result<Read<'a, Test<Name>>, Stop<'a>>
+    ensures { MatchResult result (λ r. ReadsTest source.now tokens.now depth r.value r.rest.now) (λ s. FailsAt (TestOperand ∷ MoreTest ∷ []) tokens.now depth 0 s) }
 {
     match test_from(alloc, source, tokens, 1, depth, 0) {
-        Ok(read) => Ok(TestRead {
-            test: read.tree,
+        Ok(read) => Ok(Read {
+            value: read.value.tree,
             rest: read.rest,
         }),
         Err(stop) => Err(stop),
@@ -95,13 +73,13 @@ fn closed_value<'a>(
     source: &[u8],
     tokens: &'a [Token],
     depth: u32,
-) -> Result<ValueRead<'a>, Stop<'a>>
+) -> Result<Read<'a, Raw<Name>>, Stop<'a>>
     requires { depth < 64 }
     ensures { MatchResult result (λ r. ReadsClosed source.now tokens.now depth r.value r.rest.now) (λ s. FailsAt (Operand ∷ More ∷ T (class_is.Mark mark.CloseParen) ∷ []) tokens.now (depth + 1) 0 s) }
 {
     match read_value(alloc, source, tokens, depth + 1) {
         Ok(read) => match expect(read.rest, Class::Mark(Mark::CloseParen)) {
-            Ok(close) => Ok(ValueRead {
+            Ok(close) => Ok(Read {
                 value: read.value,
                 rest: close.rest,
             }),
@@ -117,14 +95,14 @@ fn closed_test<'a>(
     source: &[u8],
     tokens: &'a [Token],
     depth: u32,
-) -> Result<TestRead<'a>, Stop<'a>>
+) -> Result<Read<'a, Test<Name>>, Stop<'a>>
     requires { depth < 64 }
-    ensures { MatchResult result (λ r. ReadsClosedTest source.now tokens.now depth r.test r.rest.now) (λ s. FailsAt (TestOperand ∷ MoreTest ∷ T (class_is.Mark mark.CloseParen) ∷ []) tokens.now (depth + 1) 0 s) }
+    ensures { MatchResult result (λ r. ReadsClosedTest source.now tokens.now depth r.value r.rest.now) (λ s. FailsAt (TestOperand ∷ MoreTest ∷ T (class_is.Mark mark.CloseParen) ∷ []) tokens.now (depth + 1) 0 s) }
 {
     match read_test(alloc, source, tokens, depth + 1) {
         Ok(read) => match expect(read.rest, Class::Mark(Mark::CloseParen)) {
-            Ok(close) => Ok(TestRead {
-                test: read.test,
+            Ok(close) => Ok(Read {
+                value: read.value,
                 rest: close.rest,
             }),
             Err(stop) => Err(stop),
@@ -139,7 +117,7 @@ pub fn read_parens<'a>(
     source: &[u8],
     tokens: &'a [Token],
     depth: u32,
-) -> Result<ValueRead<'a>, Stop<'a>>
+) -> Result<Read<'a, Raw<Name>>, Stop<'a>>
     ensures { MatchResult result (λ r. ReadsParens source.now tokens.now depth r.value r.rest.now) (λ s. FailsAt (T (class_is.Mark mark.OpenParen) ∷ Operand ∷ More ∷ T (class_is.Mark mark.CloseParen) ∷ []) tokens.now depth 0 s) }
 {
     let open = match expect(tokens, Class::Mark(Mark::OpenParen)) {
@@ -161,8 +139,8 @@ pub fn read_test_parens<'a>(
     source: &[u8],
     tokens: &'a [Token],
     depth: u32,
-) -> Result<TestRead<'a>, Stop<'a>>
-    ensures { MatchResult result (λ r. ReadsTestParens source.now tokens.now depth r.test r.rest.now) (λ s. FailsAt (T (class_is.Mark mark.OpenParen) ∷ TestOperand ∷ MoreTest ∷ T (class_is.Mark mark.CloseParen) ∷ []) tokens.now depth 0 s) }
+) -> Result<Read<'a, Test<Name>>, Stop<'a>>
+    ensures { MatchResult result (λ r. ReadsTestParens source.now tokens.now depth r.value r.rest.now) (λ s. FailsAt (T (class_is.Mark mark.OpenParen) ∷ TestOperand ∷ MoreTest ∷ T (class_is.Mark mark.CloseParen) ∷ []) tokens.now depth 0 s) }
 {
     let open = match expect(tokens, Class::Mark(Mark::OpenParen)) {
         Ok(open) => open,
@@ -178,11 +156,11 @@ pub fn read_test_parens<'a>(
 }
 
 /// An `immediate` that the tokens begin with.
-fn immediate_at(tokens: &[Token]) -> Option<Front>
-    ensures { MatchOption result (Skips ImmediatePart tokens.now) (λ f. IsFront (class_is.Reserved word.Immediate) tokens.now f.token f.rest.now) }
+fn immediate_at(tokens: &[Token]) -> Option<Read<Token>>
+    ensures { MatchOption result (Skips ImmediatePart tokens.now) (λ f. IsFirst (class_is.Reserved word.Immediate) tokens.now f.value f.rest.now) }
 {
     match after(tokens, Class::Reserved(Word::Immediate)) {
-        Some(front) => Some(front),
+        Some(first) => Some(first),
         None => None,
     }
 }
@@ -193,8 +171,8 @@ pub fn read_guard<'a>(
     source: &[u8],
     tokens: &'a [Token],
     depth: u32,
-) -> Result<GuardRead<'a>, Stop<'a>>
-    ensures { MatchResult result (λ r. ReadsGuard source.now tokens.now depth r.immediate r.test r.rest.now) (λ s. FailsAt (T (class_is.Mark mark.OpenParen) ∷ ImmediatePart ∷ TestOperand ∷ MoreTest ∷ T (class_is.Mark mark.CloseParen) ∷ []) tokens.now depth 0 s) }
+) -> Result<Read<'a, Guard>, Stop<'a>>
+    ensures { MatchResult result (λ r. ReadsGuard source.now tokens.now depth r.value.immediate r.value.test r.rest.now) (λ s. FailsAt (T (class_is.Mark mark.OpenParen) ∷ ImmediatePart ∷ TestOperand ∷ MoreTest ∷ T (class_is.Mark mark.CloseParen) ∷ []) tokens.now depth 0 s) }
 {
     let open = match expect(tokens, Class::Mark(Mark::OpenParen)) {
         Ok(open) => open,
@@ -205,17 +183,21 @@ pub fn read_guard<'a>(
     }
     match immediate_at(open.rest) {
         Some(keyword) => match closed_test(alloc, source, keyword.rest, depth) {
-            Ok(read) => Ok(GuardRead {
-                immediate: true,
-                test: read.test,
+            Ok(read) => Ok(Read {
+                value: Guard {
+                    immediate: true,
+                    test: read.value,
+                },
                 rest: read.rest,
             }),
             Err(stop) => Err(stop),
         },
         None => match closed_test(alloc, source, open.rest, depth) {
-            Ok(read) => Ok(GuardRead {
-                immediate: false,
-                test: read.test,
+            Ok(read) => Ok(Read {
+                value: Guard {
+                    immediate: false,
+                    test: read.value,
+                },
                 rest: read.rest,
             }),
             Err(stop) => Err(stop),
@@ -244,11 +226,11 @@ pub fn read_true<'a>(tokens: &'a [Token], depth: u32) -> Result<&'a [Token], Sto
 }
 
 /// A `(` before a value.
-fn value_at(tokens: &[Token]) -> Option<Front>
-    ensures { MatchOption result (Skips ValuePart tokens.now) (λ f. IsFront (class_is.Mark mark.OpenParen) tokens.now f.token f.rest.now) }
+fn value_at(tokens: &[Token]) -> Option<Read<Token>>
+    ensures { MatchOption result (Skips ValuePart tokens.now) (λ f. IsFirst (class_is.Mark mark.OpenParen) tokens.now f.value f.rest.now) }
 {
     match after(tokens, Class::Mark(Mark::OpenParen)) {
-        Some(front) => Some(front),
+        Some(first) => Some(first),
         None => None,
     }
 }
@@ -259,11 +241,11 @@ pub fn read_given<'a>(
     source: &[u8],
     tokens: &'a [Token],
     depth: u32,
-) -> Result<GivenRead<'a>, Stop<'a>>
+) -> Result<Read<'a, Option<Raw<Name>>>, Stop<'a>>
     ensures { MatchResult result (λ r. ReadsGiven source.now tokens.now depth r.value r.rest.now) (λ s. FailsAt (ValuePart ∷ []) tokens.now depth 0 s) }
 {
     let Some(open) = value_at(tokens) else {
-        return Ok(GivenRead {
+        return Ok(Read {
             value: None,
             rest: tokens,
         });
@@ -272,7 +254,7 @@ pub fn read_given<'a>(
         return Err(Stop::TooDeep(tokens));
     }
     match closed_value(alloc, source, open.rest, depth) {
-        Ok(read) => Ok(GivenRead {
+        Ok(read) => Ok(Read {
             value: Some(read.value),
             rest: read.rest,
         }),
@@ -281,16 +263,15 @@ pub fn read_given<'a>(
 }
 
 /// The sign of an assignment.
-pub fn read_assign<'a>(tokens: &'a [Token], depth: u32) -> Result<AssignRead<'a>, Stop<'a>>
-    ensures { MatchResult result (λ r. ReadsAssignSign tokens.now depth r.op r.at r.rest.now) (λ s. FailsAt (AssignSign ∷ []) tokens.now depth 0 s) }
+pub fn read_assign<'a>(tokens: &'a [Token], depth: u32) -> Result<Read<'a, Assignment>, Stop<'a>>
+    ensures { MatchResult result (λ r. ReadsAssignSign tokens.now depth r.value.op r.value.at r.rest.now) (λ s. FailsAt (AssignSign ∷ []) tokens.now depth 0 s) }
 {
     let Some((sign, rest)) = tokens.split_first() else {
         return Err(Stop::Syntax(tokens));
     };
     match assign_of(sign.class) {
-        Some(op) => Ok(AssignRead {
-            op,
-            at: sign.start,
+        Some(op) => Ok(Read {
+            value: Assignment { op, at: sign.start },
             rest,
         }),
         None => Err(Stop::Syntax(tokens)),

@@ -27,7 +27,7 @@ abbrev pub decreases-prefix : goal.decreases-prefix
 decreases-prefix l = 5 * length l.rest.now + 4
 
 abbrev pub invariant-expression-loop-alloc : goal.invariant-expression-loop-alloc
-invariant-expression-loop-alloc l = ReadsFront l.source l.tokens l.depth l.operators l.least l.read.tree l.read.operators l.read.rest.now
+invariant-expression-loop-alloc l = ReadsFront l.source l.tokens l.depth l.operators l.least l.read.value.tree l.read.value.operators l.read.rest.now
 
 abbrev pub decreases-expression-loop-alloc : goal.decreases-expression-loop-alloc
 decreases-expression-loop-alloc l = length l.read.rest.now

@@ -1,4 +1,4 @@
-use Rattle.expr_parser.proofs.Operands.{atom-reads}
+use Rattle.expr_parser.proofs.OperandLemmas.{atom-reads}
 use Rattle.expr_parser.proofs.expression.atom.Goals as goal
 
 pub returns-in-Ok : goal.returns-in-Ok

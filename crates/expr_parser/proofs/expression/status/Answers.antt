@@ -1,6 +1,6 @@
 use Rattle.std.proofs.Common.{ap}
 use Rattle.sj_ast.specs.declared.expression.Raw as raw
-use Rattle.expr_parser.proofs.Operands.{status-reads, status-refused}
+use Rattle.expr_parser.proofs.OperandLemmas.{status-reads, status-refused}
 use Rattle.expr_parser.proofs.expression.status.Goals as goal
 
 pub returns-in_default : goal.returns-in_default
@@ -8,5 +8,5 @@ returns-in_default c = record { fails = λ k. status-refused c.args.tokens.now c
 
 pub returns-in-Ok : goal.returns-in-Ok
 returns-in-Ok c =
-    status-reads c.args.source.now c.args.tokens.now c.args.rest.now c.in-Some.front.rest.now c.args.first.now c.in-Some.front.token c.args.depth c.args.operators (raw.Status c.args.first.now.start c.in-Some.front.token.start c.in-Ok.name)
-    c.requires.is c.requires.role c.in-Some.ensures (ap (raw.Status c.args.first.now.start c.in-Some.front.token.start) c.in-Ok.ensures)
+    status-reads c.args.source.now c.args.tokens.now c.args.rest.now c.in-Some.named.rest.now c.args.first.now c.in-Some.named.value c.args.depth c.args.operators (raw.Status c.args.first.now.start c.in-Some.named.value.start c.in-Ok.name)
+    c.requires.is c.requires.role c.in-Some.ensures (ap (raw.Status c.args.first.now.start c.in-Some.named.value.start) c.in-Ok.ensures)

@@ -18,7 +18,7 @@ abbrev pub decreases-test_operand : goal.decreases-test_operand
 decreases-test_operand l = 5 * length l.tokens.now
 
 abbrev pub invariant-test_from-loop-alloc : goal.invariant-test_from-loop-alloc
-invariant-test_from-loop-alloc l = ReadsTestFront l.source l.tokens l.depth l.operators l.least l.read.tree l.read.operators l.read.rest.now
+invariant-test_from-loop-alloc l = ReadsTestFront l.source l.tokens l.depth l.operators l.least l.read.value.tree l.read.value.operators l.read.rest.now
 
 abbrev pub decreases-test_from-loop-alloc : goal.decreases-test_from-loop-alloc
 decreases-test_from-loop-alloc l = length l.read.rest.now

@@ -1,6 +1,6 @@
 use Rattle.std.proofs.Common.{ap}
 use Rattle.sj_ast.specs.declared.test.Test as signal_test
-use Rattle.expr_parser.proofs.TestOperands.{signal-reads}
+use Rattle.expr_parser.proofs.TestOperandLemmas.{signal-reads}
 use Rattle.expr_parser.proofs.test_parser.signal.Goals as goal
 
 pub returns-in-Ok : goal.returns-in-Ok

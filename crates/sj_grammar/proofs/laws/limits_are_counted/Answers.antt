@@ -1,6 +1,6 @@
 use Rattle.std.proofs.Common.{true, false, refl}
 use Rattle.sj_grammar.specs.definitions.Machine.{expression, test}
-use Rattle.sj_grammar.proofs.Counting.{within-counted, deep-counted}
+use Rattle.sj_grammar.proofs.CountedLimits.{within-counted, deep-counted}
 use Rattle.sj_grammar.proofs.laws.limits_are_counted.Goals as goal
 
 pub returns-clause-expressions : goal.returns-clause-expressions

@@ -1,4 +1,4 @@
-use Rattle.sj_grammar.proofs.Exact.{expression-whole, test-whole, program-whole}
+use Rattle.sj_grammar.proofs.SentenceReadings.{expression-whole, test-whole, program-whole}
 use Rattle.sj_grammar.proofs.laws.sentences_are_what_is_read_whole.Goals as goal
 
 pub returns-clause-expressions : goal.returns-clause-expressions

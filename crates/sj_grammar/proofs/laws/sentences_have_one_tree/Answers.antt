@@ -1,4 +1,4 @@
-use Rattle.sj_grammar.proofs.OneTree.{one-expression}
+use Rattle.sj_grammar.proofs.OneExpression.{one-expression}
 use Rattle.sj_grammar.proofs.OneTest.{one-test}
 use Rattle.sj_grammar.proofs.OneProgram.{one-program}
 use Rattle.sj_grammar.proofs.laws.sentences_have_one_tree.Goals as goal

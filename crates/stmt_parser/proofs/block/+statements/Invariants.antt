@@ -45,13 +45,13 @@ abbrev pub decreases-others : goal.decreases-others
 decreases-others l = 8 * length l.tokens.now + 4
 
 abbrev pub invariant-inside-loop-alloc : goal.invariant-inside-loop-alloc
-invariant-inside-loop-alloc l = ReadsStmts l.source l.tokens (l.depth + 1) l.statements.items l.front
+invariant-inside-loop-alloc l = ReadsStmts l.source l.tokens (l.depth + 1) l.statements.items l.rest
 
 abbrev pub decreases-inside-loop-alloc : goal.decreases-inside-loop-alloc
-decreases-inside-loop-alloc l = length l.front
+decreases-inside-loop-alloc l = length l.rest
 
 abbrev pub invariant-others-loop-sign : goal.invariant-others-loop-sign
-invariant-others-loop-sign l = ReadsBeside l.source l.tokens l.between l.depth l.blocks.items l.front
+invariant-others-loop-sign l = ReadsBeside l.source l.tokens l.between l.depth l.blocks.items l.rest
 
 abbrev pub decreases-others-loop-sign : goal.decreases-others-loop-sign
-decreases-others-loop-sign l = length l.front
+decreases-others-loop-sign l = length l.rest

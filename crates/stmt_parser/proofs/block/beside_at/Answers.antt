@@ -1,4 +1,4 @@
-use Rattle.stmt_parser.proofs.Going.{skips-others}
+use Rattle.stmt_parser.proofs.WalkLemmas.{skips-others}
 use Rattle.stmt_parser.proofs.block.beside_at.Goals as goal
 
 pub returns-in-None : goal.returns-in-None

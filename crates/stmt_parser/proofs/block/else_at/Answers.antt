@@ -1,4 +1,4 @@
-use Rattle.stmt_parser.proofs.Going.{skips-else}
+use Rattle.stmt_parser.proofs.WalkLemmas.{skips-else}
 use Rattle.stmt_parser.proofs.block.else_at.Goals as goal
 
 pub returns-in-None : goal.returns-in-None

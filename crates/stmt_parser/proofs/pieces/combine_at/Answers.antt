@@ -1,4 +1,4 @@
-use Rattle.stmt_parser.proofs.Going.{skips-combine}
+use Rattle.stmt_parser.proofs.WalkLemmas.{skips-combine}
 use Rattle.stmt_parser.proofs.pieces.combine_at.Goals as goal
 
 pub returns-in-None : goal.returns-in-None

@@ -1,5 +1,5 @@
 use Rattle.std.proofs.Common.{sym}
-use Rattle.stmt_parser.proofs.Parts.{combine-sign}
+use Rattle.stmt_parser.proofs.PartLemmas.{combine-sign}
 use Rattle.stmt_parser.proofs.pieces.combine_sign.Goals as goal
 
 pub returns-in-Some-combine_of : goal.returns-in-Some-combine_of

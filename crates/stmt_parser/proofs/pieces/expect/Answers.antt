@@ -1,5 +1,5 @@
 use Rattle.std.proofs.Common.{refl}
-use Rattle.stmt_parser.proofs.Going.{lacks}
+use Rattle.stmt_parser.proofs.WalkLemmas.{lacks}
 use Rattle.stmt_parser.proofs.pieces.expect.Goals as goal
 
 pub returns-in-None : goal.returns-in-None

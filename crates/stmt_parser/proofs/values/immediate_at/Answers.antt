@@ -1,4 +1,4 @@
-use Rattle.stmt_parser.proofs.Going.{skips-immediate}
+use Rattle.stmt_parser.proofs.WalkLemmas.{skips-immediate}
 use Rattle.stmt_parser.proofs.values.immediate_at.Goals as goal
 
 pub returns-in-None : goal.returns-in-None

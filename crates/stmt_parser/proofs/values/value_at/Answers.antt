@@ -1,4 +1,4 @@
-use Rattle.stmt_parser.proofs.Going.{skips-value}
+use Rattle.stmt_parser.proofs.WalkLemmas.{skips-value}
 use Rattle.stmt_parser.proofs.values.value_at.Goals as goal
 
 pub returns-in-None : goal.returns-in-None
