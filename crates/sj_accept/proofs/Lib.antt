@@ -1,0 +1,17 @@
+pub mod ListLemmas
+pub mod BuiltFormLemmas
+pub mod TermLemmas
+pub mod NameLemmas
+pub mod NameNumberLemmas
+pub mod PortLemmas
+pub mod OwnerLemmas
+pub mod TableLemmas
+pub mod PortLimitLemmas
+pub mod SystemLemmas
+pub mod LoopLemmas
+pub mod StaticRuleLemmas
+pub mod StatementLemmas
+pub mod SourceLemmas
+pub mod ProgramLemmas
+pub mod RefusalLemmas
+pub mod RowLemmas

@@ -1,0 +1,7 @@
+pub mod Sources
+pub mod Ports
+pub mod Lowering
+pub mod Programs
+pub mod Accepted
+pub mod Systems
+pub mod Refusals

@@ -1,0 +1,46 @@
+-- Why a source isn't accepted: the first place where its bytes are no token, then its first token that can't stand or is
+-- too deep, then any other rule.
+use Rattle.std.specs.Prelude.{ℕ, ◌≤◌, List, length}
+use Rattle.sj_lexer.specs.declared.head.Fault.TheVariants as fault
+use Rattle.sj_lexer.specs.declared.token.Token.{Token}
+use Rattle.sj_lexer.specs.definitions.Readings as readings
+use Rattle.stmt_parser.specs.definitions.Parsing.{SyntaxAt, TooDeepAt}
+use Rattle.sj_accept.specs.declared.refusal.Refusal.{Refusal}
+use Rattle.sj_accept.specs.declared.refusal.Refusal.TheVariants as refusal
+use Rattle.sj_accept.specs.declared.refusal.AcceptError.{AcceptError}
+use Rattle.sj_accept.specs.declared.refusal.AcceptError.TheVariants as error
+use Rattle.sj_accept.specs.definitions.Sources.{SourceTree, IsParsed}
+use Rattle.sj_accept.specs.definitions.Programs.{Program}
+use Rattle.sj_accept.specs.definitions.Accepted.{most_source_bytes, IsSourceOf}
+
+-- the source's tokens begin no program, up to the one at this place and with it
+pub record IsSyntaxAt (source : List ℕ) (place : ℕ) : Type 0 where
+  pub tokens : List Token
+  pub are : readings.AreTokens source tokens
+  pub at : SyntaxAt source tokens place
+
+-- the source's token at this place is too deep
+pub record IsTooDeepAt (source : List ℕ) (place : ℕ) : Type 0 where
+  pub tokens : List Token
+  pub are : readings.AreTokens source tokens
+  pub at : TooDeepAt source tokens place
+
+-- the source is a tree, and no program that keeps the rules
+pub record IsUnaccepted (source : List ℕ) : Type 0 where
+  pub size : length source ≤ most_source_bytes
+  pub tree : SourceTree
+  pub parsed : IsParsed source tree
+  pub none : (p : Program) → IsSourceOf source p → ⊥
+
+abbrev pub IsRefusedFor : List ℕ → Refusal → Type 0
+IsRefusedFor source (refusal.BadByte at) = readings.IsRefused source fault.BadByte at
+IsRefusedFor source (refusal.BadNumber at) = readings.IsRefused source fault.BadNumber at
+IsRefusedFor source (refusal.OpenComment at) = readings.IsRefused source fault.OpenComment at
+IsRefusedFor source (refusal.Syntax at) = IsSyntaxAt source at
+IsRefusedFor source (refusal.TooDeep at) = IsTooDeepAt source at
+IsRefusedFor source refusal.Later = IsUnaccepted source
+
+-- want of memory may come at any place
+abbrev pub IsWhyNot : List ℕ → AcceptError → Type 0
+IsWhyNot source (error.Refused reason) = IsRefusedFor source reason
+IsWhyNot source error.NoMemory = Unit {0}

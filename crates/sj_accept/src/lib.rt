@@ -1,0 +1,28 @@
+//! Accepted sources: the system of a source that keeps the language's rules, or the first reason why it has none.
+#![tactic(auto)]
+
+mod domains;
+mod laws;
+mod lists;
+mod loops;
+mod names;
+mod owners;
+mod ports;
+mod program;
+mod refusal;
+mod rows;
+mod rules;
+mod source;
+mod statements;
+mod tables;
+
+pub use laws::{
+    accepted_sources_are_not_refused, sources_are_one_program, sources_are_one_tree,
+    sources_have_one_refusal,
+};
+pub use refusal::{AcceptError, Refusal};
+pub use rows::small_refusals;
+pub use source::accept;
+
+#[cfg(test)]
+mod tests;

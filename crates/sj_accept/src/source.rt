@@ -1,0 +1,75 @@
+ghost use Rattle.std.specs.Prelude.{◌≤◌, ℕ, List, length, MatchResult};
+ghost use Rattle.sj_lexer.specs.declared.token.Token.{Token};
+ghost use Rattle.sj_lexer.specs.definitions.Readings.{AreTokens};
+ghost use Rattle.sj_lexer.specs.Lexing.{IsWhy};
+ghost use Rattle.stmt_parser.specs.definitions.Parsing.{IsNoProgram};
+ghost use Rattle.sj_accept.specs.definitions.Sources.{IsParsed};
+ghost use Rattle.sj_accept.specs.definitions.Accepted.{most_source_bytes};
+ghost use Rattle.sj_accept.specs.definitions.Systems.{Accepts};
+ghost use Rattle.sj_accept.specs.definitions.Refusals.{IsWhyNot};
+
+use crate::laws::{sources_are_one_tree, trees_are_whole};
+use crate::program::system_of;
+use crate::refusal::{AcceptError, Refusal};
+use crate::rules::keep_static_rules;
+use kernel_terms::System;
+use sj_ast::{Name, Raw, Tree};
+use sj_lexer::{LexError, lex};
+use std::alloc::Global;
+use stmt_parser::{ParseError, parse};
+use tick_tree::system_exits_fit;
+
+fn lex_error(error: LexError) -> AcceptError
+    ensures { (source : List ℕ) → IsWhy source error → IsWhyNot source result }
+{
+    match error {
+        LexError::BadByte(at) => AcceptError::Refused(Refusal::BadByte(at)),
+        LexError::BadNumber(at) => AcceptError::Refused(Refusal::BadNumber(at)),
+        LexError::OpenComment(at) => AcceptError::Refused(Refusal::OpenComment(at)),
+        LexError::NoMemory => AcceptError::NoMemory,
+    }
+}
+
+fn parse_error(error: ParseError) -> AcceptError
+    ensures { (source : List ℕ) (tokens : List Token) → AreTokens source tokens → IsNoProgram source tokens error → IsWhyNot source result }
+{
+    match error {
+        ParseError::Syntax(at) => AcceptError::Refused(Refusal::Syntax(at)),
+        ParseError::TooDeep(at) => AcceptError::Refused(Refusal::TooDeep(at)),
+        ParseError::NoMemory => AcceptError::NoMemory,
+    }
+}
+
+/// The tree that the source is.
+fn read_tree(alloc: Global, source: &[u8]) -> Result<Tree<Name, Raw<Name>>, AcceptError>
+    requires { length source.now ≤ most_source_bytes }
+    ensures { MatchResult result (IsParsed source.now) (IsWhyNot source.now) }
+{
+    let tokens = match lex(alloc, source) {
+        Ok(tokens) => tokens,
+        Err(error) => return Err(lex_error(error)),
+    };
+    match parse(alloc, &tokens, source) {
+        Ok(tree) => Ok(tree),
+        Err(error) => Err(parse_error(error)),
+    }
+}
+
+/// The system of an accepted source. A refusal is the first reason in this order: the first place where the bytes
+/// are no token, the first token that can't stand where it does or is too deep, and then any other rule.
+pub fn accept(alloc: Global, source: &[u8]) -> Result<System, AcceptError>
+    requires { length source.now ≤ most_source_bytes }
+    ensures { MatchResult result (Accepts source.now) (IsWhyNot source.now) }
+{
+    sources_are_one_tree();
+    trees_are_whole();
+    let tree = read_tree(alloc, source)?;
+    let Some(system) = system_of(alloc, &tree)? else {
+        return Err(AcceptError::Refused(Refusal::Later));
+    };
+    system_exits_fit();
+    if !keep_static_rules(system.domains()) {
+        return Err(AcceptError::Refused(Refusal::Later));
+    }
+    Ok(system)
+}

@@ -1,0 +1,291 @@
+use crate::{AcceptError, Refusal, accept};
+use std::alloc::{AllocError, Global};
+use std::test::Fail;
+
+// The refusal of a source; None where it is accepted.
+fn refusal_of(alloc: Global, source: &[u8]) -> Result<Option<Refusal>, Fail> {
+    if source.len() > 1_048_576 {
+        return Ok(Some(Refusal::Later));
+    }
+    match accept(alloc, source) {
+        Ok(_system) => Ok(None),
+        Err(AcceptError::Refused(refusal)) => Ok(Some(refusal)),
+        Err(AcceptError::NoMemory) => Err(AllocError.into()),
+    }
+}
+
+// So many times this statement and then the others in a domain, beside one that receives on C in a loop.
+fn repeated(
+    alloc: Global,
+    statement: &[u8],
+    times: usize,
+    others: &[u8],
+) -> Result<Vec<u8>, AllocError> {
+    let mut source = Vec::from_slice(alloc, b"system{interface{int channel C;}{send C(1);")?;
+    for _ in 0..times {
+        source.extend_from_slice(statement)?;
+    }
+    source.extend_from_slice(others)?;
+    source.extend_from_slice(b"}><{while(true){receive C;}}}")?;
+    Ok(source)
+}
+
+#[test]
+fn accepts_built_forms(rt: HostRuntime) -> Result<(), Fail> {
+    let sources: [&[u8]; 6] = [
+        b"system{interface{}{}}",
+        b"system{interface{output signal A;}{emit A;pause;;emit A;}}",
+        b"system{interface{output signal A;}{while(true){emit A;pause;}}}",
+        b"system{interface{int channel C;}{send C(5);}><{receive C;}}",
+        b"system{interface{int channel C;}{while(true){send C(1);}}><{while(true){receive C;}}}",
+        b"/* a */ system { interface { } // b\n { pause; } }",
+    ];
+    for source in sources {
+        assert_eq!(rt; refusal_of(rt.alloc(), source)?, None);
+    }
+    Ok(())
+}
+
+#[test]
+fn tells_the_first_reason(rt: HostRuntime) -> Result<(), Fail> {
+    let cases: [(&[u8], Refusal); 12] = [
+        (b"", Refusal::Syntax(0)),
+        (b"system{interface{}{@}}", Refusal::BadByte(19)),
+        (b"system{interface{}{pause;} 08", Refusal::BadNumber(27)),
+        (b"system /*", Refusal::OpenComment(7)),
+        (b"system{interface{}{emit}}", Refusal::Syntax(23)),
+        (b"system{interface{}{}", Refusal::Syntax(20)),
+        (
+            b"system{interface{int channel C;}{send C(2147483648);}}",
+            Refusal::Syntax(40),
+        ),
+        (
+            b"system{interface{int channel C;}{send C(4294967296);}}",
+            Refusal::BadNumber(40),
+        ),
+        (b"system{interface{}{emit A;}}", Refusal::Later),
+        (
+            b"system{interface{output signal A;output signal A;}{}}",
+            Refusal::Later,
+        ),
+        (b"system{interface{}{halt;}}", Refusal::Later),
+        (
+            b"system{interface{int channel C;}{send C(-1);}><{receive C;}}",
+            Refusal::Later,
+        ),
+    ];
+    for (source, refusal) in cases {
+        assert_eq!(rt; refusal_of(rt.alloc(), source)?, Some(refusal));
+    }
+    Ok(())
+}
+
+#[test]
+fn looks_at_names(rt: HostRuntime) -> Result<(), Fail> {
+    let sources: [&[u8]; 7] = [
+        b"system{interface{output signal A;}{emit B;}}",
+        b"system{interface{int channel C;int channel C;}{send C(1);}><{receive C;}}",
+        b"system{interface{int channel C;output signal C;}{send C(1);}><{receive C;}}",
+        b"system{interface{int channel C;}{emit C;}><{receive C;}}",
+        b"system{interface{int channel C;}{send D(1);}><{receive C;}}",
+        b"system{interface{output signal A;}{send A(1);}><{receive A;}}",
+        b"system{interface{output signal A;}{receive A;}}",
+    ];
+    for source in sources {
+        assert_eq!(rt; refusal_of(rt.alloc(), source)?, Some(Refusal::Later));
+    }
+    Ok(())
+}
+
+#[test]
+fn looks_at_owners(rt: HostRuntime) -> Result<(), Fail> {
+    let sources: [&[u8]; 6] = [
+        b"system{interface{int channel C;}{}}",
+        b"system{interface{int channel C;}{}><{receive C;}}",
+        b"system{interface{output signal A;}{emit A;}><{emit A;}}",
+        b"system{interface{int channel C;}{send C(1);}}",
+        b"system{interface{int channel C;}{send C(1);receive C;}}",
+        b"system{interface{int channel C;}{send C(1);}><{receive C;}><{receive C;}}",
+    ];
+    for source in sources {
+        assert_eq!(rt; refusal_of(rt.alloc(), source)?, Some(Refusal::Later));
+    }
+    Ok(())
+}
+
+#[test]
+fn looks_at_loops(rt: HostRuntime) -> Result<(), Fail> {
+    let sources: [&[u8]; 3] = [
+        b"system{interface{output signal A;}{while(true){emit A;}}}",
+        b"system{interface{}{}><{pause;while(true){;}}}",
+        b"system{interface{}{while(true){while(true){}}}}",
+    ];
+    for source in sources {
+        assert_eq!(rt; refusal_of(rt.alloc(), source)?, Some(Refusal::Later));
+    }
+    Ok(())
+}
+
+// A send weighs 2 in the starting tree and 1 in the resuming one, and is started again behind
+// each that comes before it: n sends weigh 3 n, and n pauses behind a send 3 + 2 n. A `;` weighs 1 behind them.
+#[test]
+fn looks_at_the_weight(rt: HostRuntime) -> Result<(), Fail> {
+    let cases: [(&[u8], usize, &[u8], bool); 5] = [
+        (b"send C(1);", 33_332, b"", true),
+        (b"send C(1);", 33_333, b"", false),
+        (b"pause;", 49_998, b"", true),
+        (b"pause;", 49_998, b";", true),
+        (b"pause;", 49_998, b";;", false),
+    ];
+    for (statement, times, others, fits) in cases {
+        let source = repeated(rt.alloc(), statement, times, others)?;
+        assert_eq!(rt; refusal_of(rt.alloc(), &source)?.is_none(), fits);
+    }
+    Ok(())
+}
+
+#[test]
+fn tells_who_owns_what(rt: HostRuntime) -> Result<(), Fail> {
+    let source =
+        b"system{interface{output signal A;int channel C;output signal B;output signal D;}{send C(1);emit B;}><{receive C;emit A;}}".as_slice();
+    let Ok(system) = accept(rt.alloc(), source) else {
+        return Err("refused".into());
+    };
+    let signals = system.tables().signals.as_slice();
+    assert_eq!(rt; signals.len(), 3);
+    assert_eq!(rt; signals[0].domain, 1);
+    assert_eq!(rt; signals[1].domain, 0);
+    assert_eq!(rt; signals[2].domain, 0);
+    let channels = system.tables().channels.as_slice();
+    assert_eq!(rt; channels.len(), 1);
+    assert_eq!(rt; channels[0].name.bytes(), b"C".as_slice());
+    assert_eq!(rt; channels[0].sender, 0);
+    assert_eq!(rt; channels[0].receiver, 1);
+    assert_eq!(rt; system.domains().len(), 2);
+    Ok(())
+}
+
+// A program of so many loops, one in another.
+fn nested(alloc: Global, loops: usize) -> Result<Vec<u8>, AllocError> {
+    let mut source = Vec::from_slice(alloc, b"system{interface{}{")?;
+    for _ in 0..loops {
+        source.extend_from_slice(b"while(true){")?;
+    }
+    source.extend_from_slice(b"pause;")?;
+    for _ in 0..loops {
+        source.extend_from_slice(b"}")?;
+    }
+    source.extend_from_slice(b"}}")?;
+    Ok(source)
+}
+
+#[test]
+fn accepts_loops_up_to_the_limit(rt: HostRuntime) -> Result<(), Fail> {
+    let deepest = nested(rt.alloc(), 62)?;
+    assert_eq!(rt; refusal_of(rt.alloc(), &deepest)?, None);
+    let deeper = nested(rt.alloc(), 63)?;
+    assert_eq!(rt;
+        refusal_of(rt.alloc(), &deeper)?,
+        Some(Refusal::TooDeep(768))
+    );
+    Ok(())
+}
+
+#[test]
+fn accepts_sixteen_domains(rt: HostRuntime) -> Result<(), Fail> {
+    let mut source = Vec::from_slice(rt.alloc(), b"system{interface{}{}")?;
+    for _ in 0..15 {
+        source.extend_from_slice(b"><{}")?;
+    }
+    let mut more = source.clone()?;
+    source.extend_from_slice(b"}")?;
+    assert_eq!(rt; refusal_of(rt.alloc(), &source)?, None);
+    more.extend_from_slice(b"><{}}")?;
+    assert_eq!(rt; refusal_of(rt.alloc(), &more)?, Some(Refusal::Later));
+    Ok(())
+}
+
+// Two domains joined by 64 channels, and by one more where `more` is set.
+fn joined(alloc: Global, more: bool) -> Result<Vec<u8>, AllocError> {
+    let mut source = Vec::from_slice(alloc, b"system{interface{")?;
+    let mut sends = Vec::from_slice(alloc, b"{")?;
+    let mut receives = Vec::from_slice(alloc, b"><{")?;
+    for first in b"abcdefgh" {
+        for second in b"abcdefgh" {
+            let name = [*first, *second];
+            source.extend_from_slice(b"int channel ")?;
+            source.extend_from_slice(&name)?;
+            source.extend_from_slice(b";")?;
+            sends.extend_from_slice(b"send ")?;
+            sends.extend_from_slice(&name)?;
+            sends.extend_from_slice(b"(1);")?;
+            receives.extend_from_slice(b"receive ")?;
+            receives.extend_from_slice(&name)?;
+            receives.extend_from_slice(b";")?;
+        }
+    }
+    if more {
+        source.extend_from_slice(b"int channel z;")?;
+        sends.extend_from_slice(b"send z(1);")?;
+        receives.extend_from_slice(b"receive z;")?;
+    }
+    source.extend_from_slice(b"}")?;
+    source.extend_from_slice(&sends)?;
+    source.extend_from_slice(b"}")?;
+    source.extend_from_slice(&receives)?;
+    source.extend_from_slice(b"}}")?;
+    Ok(source)
+}
+
+#[test]
+fn accepts_64_channels(rt: HostRuntime) -> Result<(), Fail> {
+    let most = joined(rt.alloc(), false)?;
+    assert_eq!(rt; refusal_of(rt.alloc(), &most)?, None);
+    let more = joined(rt.alloc(), true)?;
+    assert_eq!(rt; refusal_of(rt.alloc(), &more)?, Some(Refusal::Later));
+    Ok(())
+}
+
+// A program of 16 domains, of which each emits so many signals of its own.
+fn emitting(alloc: Global, signals: u32) -> Result<String, Fail> {
+    let mut source = String::from_str(alloc, "system{interface{")?;
+    let mut domains = String::new(alloc);
+    for domain in 0..16u32 {
+        domains.push_str(if domain == 0 { "{" } else { "><{" })?;
+        for signal in 0..signals {
+            source.push_str(format!(in alloc; "output signal A{domain}_{signal};")?.as_str())?;
+            domains.push_str(format!(in alloc; "emit A{domain}_{signal};")?.as_str())?;
+        }
+        domains.push_str("}")?;
+    }
+    source.push_str("}")?;
+    source.push_str(domains.as_str())?;
+    source.push_str("}")?;
+    Ok(source)
+}
+
+#[test]
+fn accepts_1024_signals_of_each_domain(rt: HostRuntime) -> Result<(), Fail> {
+    let most = emitting(rt.alloc(), 1024)?;
+    assert_eq!(rt; refusal_of(rt.alloc(), most.as_bytes())?, None);
+    let more = emitting(rt.alloc(), 1025)?;
+    assert_eq!(rt;
+        refusal_of(rt.alloc(), more.as_bytes())?,
+        Some(Refusal::Later)
+    );
+    Ok(())
+}
+
+#[test]
+fn refuses_40_000_signals(rt: HostRuntime) -> Result<(), Fail> {
+    let mut source = String::from_str(rt.alloc(), "system{interface{")?;
+    for signal in 0..40_000u32 {
+        source.push_str(format!(in rt.alloc(); "output signal A{signal};")?.as_str())?;
+    }
+    source.push_str("}{}}")?;
+    assert_eq!(rt;
+        refusal_of(rt.alloc(), source.as_bytes())?,
+        Some(Refusal::Later)
+    );
+    Ok(())
+}
