@@ -19,12 +19,14 @@ use Rattle.sj_main.specs.declared.commands.Turns.{Turns}
 use Rattle.sj_main.specs.declared.commands.Turns.TheVariants.{Rounds, Each}
 use Rattle.sj_main.specs.declared.order.Made.{Made}
 use Rattle.sj_main.specs.declared.order.OrderError.{OrderError}
-use Rattle.sj_main.specs.declared.order.OrderError.TheVariants.{Fault, Size, NotBuiltYet, DomainsDoNotFit, OverWeight, NoMemory}
+use Rattle.sj_main.specs.declared.order.OrderError.TheVariants.{Fault, Size, Refused, DomainsDoNotFit, OverWeight, NoMemory}
 use Rattle.sj_main.specs.Words.{AreFew}
-use Rattle.sj_main.specs.Rules.{Accepts}
+use Rattle.sj_accept.specs.definitions.Programs.{tables_of_program}
+use Rattle.sj_accept.specs.definitions.Systems.{Accepts}
+use Rattle.sj_main.proofs.SourceSystemLemmas.{same_setup, same_count}
 use Rattle.sj_main.specs.Orders.{IsMadeFrom, RunsTurns, WeighsTooMuch, IsWhyNoRun, IsWhy}
 use Rattle.sj_main.specs.definitions.Commands.{most_turns, rounds_of, turns_for, FitDomains, budgets_for}
-use Rattle.sj_main.specs.definitions.RunWeight.{run_weight}
+use Rattle.sj_main.specs.definitions.RunWeight.{run_weight, run_weight_of}
 use Rattle.sj_main.specs.definitions.Verdicts.{IsMisfit, IsOverweight}
 use Rattle.sj_main.proofs.Budgets.{turns_of-rounds}
 
@@ -161,32 +163,34 @@ same_whole : (s t : Setup) (run : RunState) (l m : List ℕ) → s ≡ t → l �
 same_whole s t run l m e h k = subst (λ x. IsWholeRun x run m) e (subst (λ x. IsWholeRun s run x) h k)
 
 weight_as : (bytes : List ℕ) (system : System) (turns : Turns) → (a : Accepts bytes system) →
-    run_weight (tables_of system) (budgets_for turns (length (domains_of system))) ≡ Rattle.sj_main.specs.definitions.RunWeight.run_weight_of a.program turns
+    run_weight (tables_of system) (budgets_for turns (length (domains_of system))) ≡ run_weight_of a.program turns
 weight_as bytes system turns a =
     ap (λ t. run_weight t (budgets_for turns (length (domains_of system)))) a.tables
-    ∙ ap (λ n. run_weight (Rattle.sj_main.specs.definitions.Programs.tables_of_program a.program) (budgets_for turns n)) a.domains
+    ∙ ap (λ n. run_weight (tables_of_program a.program) (budgets_for turns n)) (same_count bytes system a)
 
 pub made_from : (bytes : List ℕ) (turns : Turns) (made : Made) → Accepts bytes made.system → RunsTurns made.system turns (run_state made.run) → IsMadeFrom bytes turns made
 made_from bytes turns made a r =
-    let same = ap (turns_for turns) a.domains in
+    let count = same_count bytes made.system a in
+    let same = ap (turns_for turns) count in
+    let setup = same_setup bytes made.system a no_inputs in
     record {
       program = a.program;
       source = a.source;
-      can = record { fit = subst (FitDomains turns) a.domains r.fit; weight = (let z = weight_as bytes made.system turns a in let y = r.weight in omega arith) };
+      can = record { fit = subst (FitDomains turns) count r.fit; weight = (let z = weight_as bytes made.system turns a in let y = r.weight in omega arith) };
       tables = a.tables;
       last = r.is.end;
-      scheduled = same_run _ _ (run_state made.run) _ _ r.is.end (a.setup no_inputs) same r.is.scheduled;
-      whole = same_whole _ _ (run_state made.run) _ _ (a.setup no_inputs) same r.is.whole;
+      scheduled = same_run _ _ (run_state made.run) _ _ r.is.end setup same r.is.scheduled;
+      whole = same_whole _ _ (run_state made.run) _ _ setup same r.is.whole;
     }
 
 misfit : (bytes : List ℕ) (system : System) (turns : Turns) → Accepts bytes system → (FitDomains turns (length (domains_of system)) → ⊥) → IsMisfit bytes turns
-misfit bytes system turns a n = record { program = a.program; source = a.source; stray = λ f. n (subst (FitDomains turns) (sym a.domains) f) }
+misfit bytes system turns a n = record { program = a.program; source = a.source; stray = λ f. n (subst (FitDomains turns) (sym (same_count bytes system a)) f) }
 
 overweight : (bytes : List ℕ) (system : System) (turns : Turns) (weight : ℕ) → Accepts bytes system → WeighsTooMuch system turns weight → IsOverweight bytes turns weight
 overweight bytes system turns weight a w = record {
   program = a.program;
   source = a.source;
-  fit = subst (FitDomains turns) a.domains w.fit;
+  fit = subst (FitDomains turns) (same_count bytes system a) w.fit;
   is = w.is ∙ weight_as bytes system turns a;
   above = w.above;
 }
@@ -194,7 +198,7 @@ overweight bytes system turns weight a w = record {
 pub why : (bytes : List ℕ) (system : System) (turns : Turns) (e : OrderError) → Accepts bytes system → IsWhyNoRun system turns e → IsWhy bytes turns e
 why bytes system turns Fault a w = absurd w
 why bytes system turns Size a w = absurd w
-why bytes system turns NotBuiltYet a w = absurd w
+why bytes system turns (Refused reason) a w = absurd w
 why bytes system turns DomainsDoNotFit a w = misfit bytes system turns a w
 why bytes system turns (OverWeight weight) a w = overweight bytes system turns weight a w
 why bytes system turns NoMemory a w = tt

@@ -6,8 +6,8 @@ use Rattle.std.proofs.lemmas.Bool.Decides.{nat_tests}
 use Rattle.domain_core.specs.definitions.runs.Scheduled.{turns_of}
 use Rattle.sj_main.specs.declared.commands.Turns.{Turns}
 use Rattle.sj_main.specs.declared.commands.Turns.TheVariants.{Rounds, Each}
-use Rattle.sj_main.specs.definitions.Tokens.{digit_value, number_from}
-use Rattle.sj_main.specs.definitions.Commands.{most_turns, whole_number, turn_text, turns_text, AreDomains, AreTurns, IsEach, IsRoundCount, IsTurns, IsOrder}
+use Rattle.java_values.specs.Names.{is_digit}
+use Rattle.sj_main.specs.definitions.Commands.{most_turns, number_from, whole_number, turn_text, turns_text, AreDomains, AreTurns, IsEach, IsRoundCount, IsTurns, IsOrder}
 use Rattle.sj_main.proofs.Budgets.{turns_of-append}
 use Rattle.sj_main.specs.Words.{BeginsTwo, NoTwo, EndsTurn, BeginsTurn, NoTurn, NoList, IsLast, IsMore, HasList, NoFewTurns, IsTurnList, TurnsReach, CountedTo, NoEach, HasEach, NoRounds, NoTurns, HasTurns, AreFew}
 
@@ -400,10 +400,10 @@ pub ruleset turn_steps = (turns_none, turns_rounds, turns_each, has_turns)
 
 -- a command's turns are few
 
-number_step : (base limit n m : ℕ) (b : ℕ) (bs : List ℕ) (c : Bool) → c ≡ (nat_lt (digit_value b) base && nat_le (n * base + digit_value b) limit) → cond c (number_from base limit (n * base + digit_value b) bs) None ≡ Some m
-    → (n * base + digit_value b ≤ limit → number_from base limit (n * base + digit_value b) bs ≡ Some m → m ≤ limit) → m ≤ limit
-number_step base limit n m b bs false e h k = cc
-number_step base limit n m b bs true e h k = k (le_of (n * base + digit_value b) limit (both_right (nat_lt (digit_value b) base) (nat_le (n * base + digit_value b) limit) (sym e))) h
+number_step : (limit n m : ℕ) (b : ℕ) (bs : List ℕ) (c : Bool) → c ≡ (is_digit b && nat_le (n * 10 + (b - 48)) limit) → cond c (number_from limit (n * 10 + (b - 48)) bs) None ≡ Some m
+    → (n * 10 + (b - 48) ≤ limit → number_from limit (n * 10 + (b - 48)) bs ≡ Some m → m ≤ limit) → m ≤ limit
+number_step limit n m b bs false e h k = cc
+number_step limit n m b bs true e h k = k (le_of (n * 10 + (b - 48)) limit (both_right (is_digit b) (nat_le (n * 10 + (b - 48)) limit) (sym e))) h
   where
     both_right : (p q : Bool) → p && q ≡ true → q ≡ true
     both_right true q l = l
@@ -412,17 +412,17 @@ number_step base limit n m b bs true e h k = k (le_of (n * base + digit_value b)
     le_of : (x y : ℕ) → nat_le x y ≡ true → x ≤ y
     le_of x y l = grind (arith, nat_tests)
 
-number_within : (base limit n : ℕ) (w : List ℕ) (m : ℕ) → n ≤ limit → number_from base limit n w ≡ Some m → m ≤ limit
-number_within base limit n [] m l h = let e : n ≡ m = cc in omega arith
-number_within base limit n (b ∷ bs) m l h = number_step base limit n m b bs (nat_lt (digit_value b) base && nat_le (n * base + digit_value b) limit) refl h (λ k e. number_within base limit (n * base + digit_value b) bs m k e)
+number_within : (limit n : ℕ) (w : List ℕ) (m : ℕ) → n ≤ limit → number_from limit n w ≡ Some m → m ≤ limit
+number_within limit n [] m l h = let e : n ≡ m = cc in omega arith
+number_within limit n (b ∷ bs) m l h = number_step limit n m b bs (is_digit b && nat_le (n * 10 + (b - 48)) limit) refl h (λ k e. number_within limit (n * 10 + (b - 48)) bs m k e)
 
-whole_step : (limit b c m : ℕ) (rest : List ℕ) (z : Bool) → cond z None (number_from 10 limit 0 (b ∷ c ∷ rest)) ≡ Some m → m ≤ limit
+whole_step : (limit b c m : ℕ) (rest : List ℕ) (z : Bool) → cond z None (number_from limit 0 (b ∷ c ∷ rest)) ≡ Some m → m ≤ limit
 whole_step limit b c m rest true h = cc
-whole_step limit b c m rest false h = number_within 10 limit 0 (b ∷ c ∷ rest) m (omega arith) h
+whole_step limit b c m rest false h = number_within limit 0 (b ∷ c ∷ rest) m (omega arith) h
 
 whole_within : (limit : ℕ) (w : List ℕ) (m : ℕ) → whole_number limit w ≡ Some m → m ≤ limit
 whole_within limit [] m h = cc
-whole_within limit (b ∷ []) m h = number_within 10 limit 0 (b ∷ []) m (omega arith) h
+whole_within limit (b ∷ []) m h = number_within limit 0 (b ∷ []) m (omega arith) h
 whole_within limit (b ∷ c ∷ rest) m h = whole_step limit b c m rest (nat_eq b 48) h
 
 turns_few : (word : List ℕ) (turns : Turns) → IsTurns word turns → AreFew turns

@@ -1,107 +1,32 @@
 -- A send and a receive of two domains, from the bytes to the text.
-use Rattle.std.proofs.Common.{◌≡◌, ◌≢◌, inl, inr, ℕ, zero, suc, ◌<◌, ◌≤◌, true, pos, ℤ, List, [], ◌∷◌, length, get_or, refl, ◌∙◌, arith}
+use Rattle.std.proofs.Common.{◌≡◌, ◌≢◌, inl, inr, ℕ, zero, suc, ◌<◌, pos, ℤ, List, [], ◌∷◌, refl, ◌∙◌, arith}
 use Rattle.std.specs.Prelude.{Option, Some, None, codes, decimal}
-use Rattle.std.proofs.lemmas.Bool.Decides.{nat_tests}
 use Rattle.std.proofs.lemmas.Fmt.{decimal_digit}
 use Rattle.java_values.specs.declared.kind.Kind.TheVariants.{Int}
-use Rattle.kernel_terms.specs.WellFormed.{signals_of}
 use Rattle.kernel_terms.specs.Expressions.{Literal}
 use Rattle.kernel_terms.specs.Marks.{Ended}
-use Rattle.kernel_terms.specs.MayEnd.{LoopsWait}
-use Rattle.kernel_terms.specs.Statements.{Stmt, Nothing, Emit, Seq, Send, Receive, SendWaits, ReceiveWaits}
+use Rattle.kernel_terms.specs.Statements.{Emit, Seq, Send, Receive, SendWaits, ReceiveWaits}
 use Rattle.kernel_rules.specs.definitions.Signals.{put_at}
 use Rattle.kernel_rules.specs.definitions.TickRule.{Tick, quiet, ends_with, as_whole}
-use Rattle.kernel_rules.specs.definitions.LegalTick.{no_inputs}
-use Rattle.tick_tree.specs.definitions.Weight.{weight_of}
 use Rattle.tick_log.specs.definitions.Runs.{RunState, log_of, tick_count, join_count}
 use Rattle.domain_core.specs.definitions.runs.Systems.{Setup, SystemState, JoinRecord, Move, MakesTick, MakesJoin, IsSystem, start}
 use Rattle.domain_core.specs.definitions.runs.Scheduled.{TakesTurns}
-use Rattle.domain_core.proofs.lemmas.runs.Places.{put_apart}
+use Rattle.domain_core.proofs.lemmas.runs.StatesBetweenTicks.{put_apart}
 use Rattle.domain_core.proofs.lemmas.runs.WorkedRuns.{ticked, zeros, either, joined, no_join, one_join}
 use Rattle.sj_main.specs.declared.commands.Turns.TheVariants.{Each}
-use Rattle.sj_main.specs.definitions.Grammar.{Done, EmitThen, SendThen, ReceiveThen, SignalPort, ChannelPort, Program}
-use Rattle.sj_main.specs.definitions.Programs.{program_setup, tables_of_program, emits_of, sends_of, receives_of}
-use Rattle.sj_main.specs.definitions.Accepted.{Uses, Joins, IsSourceOf}
 use Rattle.sj_main.specs.definitions.Verdicts.{IsTextOfRun}
-use Rattle.sj_main.proofs.RowLemmas.{zero_text, one_text, two_text, three_text, all_none, all_more, Makes, turn_joined, turn_taken, IsShownBy, told_run}
-
-abbrev source : List ℕ
-source = codes "system{interface{output signal D;output signal B;int channel C;}{send C(5); emit D;}><{receive C; emit B;}}"
-
-abbrev program : Program
-program = record {
-  ports = SignalPort (codes "D") ∷ SignalPort (codes "B") ∷ ChannelPort (codes "C") ∷ [];
-  first = SendThen (codes "C") (pos 5) (EmitThen (codes "D") Done);
-  others = ReceiveThen (codes "C") (EmitThen (codes "B") Done) ∷ [];
-}
+use Rattle.sj_main.proofs.SmallSources.{rendezvous_source}
+use Rattle.sj_main.proofs.SmallPrograms.{setup_with, rendezvous, two_domains, rendezvous_is_source, rendezvous_statements}
+use Rattle.sj_main.proofs.RowLemmas.{zero_text, one_text, two_text, three_text, all_none, all_more, AreWaitless, waitless_both, Makes, turn_joined, turn_taken, IsShownBy, told_run}
 
 abbrev setup : Setup
-setup = program_setup program no_inputs
+setup = setup_with rendezvous two_domains
 
-abbrev domains : List Stmt
-domains = Seq (Send 0 (Literal Int (pos 5))) (Emit 0 None) ∷ Seq (Receive 0) (Emit 1 None) ∷ []
-
--- the static rules
-
-one_of : (n s : ℕ) → Rattle.kernel_terms.specs.WellFormed.stands_in s (n ∷ []) ≡ true → s ≡ n
-one_of n s h = grind (arith, nat_tests)
-
-one_emitter : (s d e : ℕ) → Uses emits_of domains d s → Uses emits_of domains e s → d ≡ e
-one_emitter s zero zero h k = refl
-one_emitter s zero (suc zero) h k = absurd (let a = one_of 0 s h in let b = one_of 1 s k in omega arith)
-one_emitter s (suc zero) zero h k = absurd (let a = one_of 1 s h in let b = one_of 0 s k in omega arith)
-one_emitter s (suc zero) (suc zero) h k = refl
-one_emitter s zero (suc (suc e)) h k = cc
-one_emitter s (suc zero) (suc (suc e)) h k = cc
-one_emitter s (suc (suc d)) e h k = cc
-
-few_each : (d : ℕ) → d < 2 → length (signals_of (tables_of_program program) d) ≤ 1024
-few_each zero h = omega arith
-few_each (suc zero) h = omega arith
-few_each (suc (suc d)) h = absurd (omega arith)
-
-one_sender : (d : ℕ) → Uses sends_of domains d 0 → d ≡ 0
-one_sender zero h = refl
-one_sender (suc zero) h = cc
-one_sender (suc (suc d)) h = cc
-
-one_receiver : (d : ℕ) → Uses receives_of domains d 0 → d ≡ 1
-one_receiver zero h = cc
-one_receiver (suc zero) h = refl
-one_receiver (suc (suc d)) h = cc
-
-channel_joins : (c : ℕ) → c < 1 → Joins domains c
-channel_joins zero h = record { sender = record { domain = 0; is = refl; only = one_sender }; receiver = record { domain = 1; is = refl; only = one_receiver }; apart = λ e. omega arith }
-channel_joins (suc c) h = absurd (omega arith)
-
-wait : (d : ℕ) → LoopsWait (get_or domains d Nothing)
-wait zero = (tt, tt)
-wait (suc zero) = (tt, tt)
-wait (suc (suc d)) = tt
-
-weigh : (d : ℕ) → weight_of (get_or domains d Nothing) ≤ 100000
-weigh zero = omega arith
-weigh (suc zero) = omega arith
-weigh (suc (suc d)) = omega arith
-
-is_source : IsSourceOf source program
-is_source = record {
-  size = omega arith;
-  spells = (_, refl, (_, refl, (_, refl, (_, refl, (_, refl, (_, refl, (_, refl, (_, refl, (_, refl, (_, refl, (_, refl, (_, refl, (_, refl, (_, refl, (_, refl, (_, refl, (_, refl, (_, refl, (_, refl, (_, refl, (_, refl, (_, refl, (_, refl, (_, refl, (_, refl, (_, refl, (_, refl, (_, refl, (_, refl, (_, refl, (_, refl, (_, refl, (_, refl, (_, refl, (_, refl, (_, refl, (_, refl, (_, refl, refl))))))))))))))))))))))))))))))))))))));
-  rules = record {
-    ports = record {
-      names = record {
-        distinct = refl;
-        channels = omega arith;
-        domains = omega arith;
-        blocks = (record { declared = (refl, (refl, tt)); depth = omega arith }, (record { declared = (refl, (refl, tt)); depth = omega arith }, tt));
-      };
-      owners = record { emitters = one_emitter; few = few_each; joined = channel_joins };
-    };
-    loops = wait;
-    weight = weigh;
-  };
-}
+waitless : AreWaitless two_domains
+waitless = (
+  waitless_both (Send 0 (Literal Int (pos 5))) (Emit 0 None) (record { sends = λ c v w. w; receives = λ c w. w }) (record { sends = λ c v w. w; receives = λ c w. w }),
+  (waitless_both (Receive 0) (Emit 1 None) (record { sends = λ c v w. w; receives = λ c w. w }) (record { sends = λ c v w. w; receives = λ c w. w }), tt),
+)
 
 system : IsSystem setup
 system = record { sender = sender; receiver = receiver; apart = apart }
@@ -218,14 +143,15 @@ shown = record {
 five_text : decimal 5 ≡ 53 ∷ []
 five_text = decimal_digit 5 (omega arith)
 
-pub one_rendezvous : IsTextOfRun source (Each (0 ∷ 1 ∷ 0 ∷ 1 ∷ [])) (codes "domain 0 ticks 2 ended\n1 @1\n2 @3 D\ndomain 1 ticks 2 ended\n1 @1\n2 @3 B\nchannel C 1\n1 5 1 1 @2\n")
+pub one_rendezvous : IsTextOfRun rendezvous_source (Each (0 ∷ 1 ∷ 0 ∷ 1 ∷ [])) (codes "domain 0 ticks 2 ended\n1 @1\n2 @3 D\ndomain 1 ticks 2 ended\n1 @1\n2 @3 B\nchannel C 1\n1 5 1 1 @2\n")
 one_rendezvous =
-    told_run source (Each (0 ∷ 1 ∷ 0 ∷ 1 ∷ [])) (codes "domain 0 ticks 2 ended\n1 @1\n2 @3 D\ndomain 1 ticks 2 ended\n1 @1\n2 @3 B\nchannel C 1\n1 5 1 1 @2\n") program the_run s5 is_source
+    told_run rendezvous_source (Each (0 ∷ 1 ∷ 0 ∷ 1 ∷ [])) (codes "domain 0 ticks 2 ended\n1 @1\n2 @3 D\ndomain 1 ticks 2 ended\n1 @1\n2 @3 B\nchannel C 1\n1 5 1 1 @2\n") rendezvous two_domains the_run s5 rendezvous_is_source rendezvous_statements
     (record {
       fit = all_more 2 0 (1 ∷ 0 ∷ 1 ∷ []) (omega arith) (all_more 2 1 (0 ∷ 1 ∷ []) (omega arith) (all_more 2 0 (1 ∷ []) (omega arith) (all_more 2 1 [] (omega arith) (all_none 2))));
       weight = omega arith;
     })
     system
+    waitless
     (record { logs = refl; histories = refl })
     shown
     (rw (zero_text, one_text, two_text, three_text, five_text) refl)

@@ -1,32 +1,31 @@
 -- Small programs, their ticks and their runs.
-use Rattle.std.proofs.Common.{◌≡◌, inl, inr, ℕ, zero, suc, ◌<◌, ◌≤◌, true, false, ℤ, pos, List, [], ◌∷◌, ◌++◌, length, get_or, map, refl, sym, ap, ◌∙◌, arith}
+use Rattle.std.proofs.Common.{◌≡◌, inl, inr, ℕ, zero, suc, ◌<◌, ◌≤◌, true, ℤ, pos, List, [], ◌∷◌, ◌++◌, length, get_or, refl, sym, ◌∙◌, subst, arith}
 use Rattle.std.specs.Prelude.{Option, Some, None, All, codes, decimal}
 use Rattle.std.proofs.lemmas.Fmt.{decimal_digit}
-use Rattle.kernel_terms.specs.declared.tables.Tables.{Tables}
-use Rattle.kernel_terms.specs.WellFormed.{stands_in, signals_of}
 use Rattle.kernel_terms.specs.Marks.{Going, Ended, is_over}
-use Rattle.kernel_terms.specs.MayEnd.{LoopsWait}
-use Rattle.kernel_terms.specs.Statements.{Stmt, Nothing, Pause, Emit, Seq, Loop, sequence, sequence_from}
+use Rattle.kernel_terms.specs.Statements.{Stmt, Nothing, Pause, Emit, Seq, Loop}
 use Rattle.kernel_rules.specs.definitions.Signals.{Emission, put_at}
 use Rattle.kernel_rules.specs.definitions.TickRule.{Tick, Ticks, quiet, ends_with, as_whole}
-use Rattle.kernel_rules.specs.definitions.LegalTick.{no_inputs, is_tick_code, shown_statuses}
-use Rattle.tick_tree.specs.definitions.Weight.{weight_of}
+use Rattle.kernel_rules.specs.definitions.LegalTick.{is_tick_code, shown_statuses}
 use Rattle.tick_log.specs.definitions.Runs.{RunState, log_of, tick_count}
 use Rattle.tick_log.specs.definitions.RunText.{run_text}
 use Rattle.domain_core.specs.definitions.runs.Systems.{Setup, SystemState, Move, MakesTick, IsSystem, IsFresh, WaitsToSend, WaitsToReceive, start, domain_count, channel_count}
 use Rattle.domain_core.specs.definitions.runs.LegalRuns.{Fits}
-use Rattle.domain_core.specs.definitions.runs.Scheduled.{JoinsInTurn, TakesTurns, TellsFrom}
+use Rattle.domain_core.specs.definitions.runs.Scheduled.{JoinsInTurn, TakesTurns, TellsFrom, IsScheduledRun, IsWholeRun}
 use Rattle.domain_core.specs.runs.StampsByStep.{StampsFrom}
-use Rattle.domain_core.proofs.lemmas.runs.Places.{put_apart}
-use Rattle.domain_core.proofs.lemmas.runs.Turns.{scheduled_by_step, scheduled_runs_are_whole}
+use Rattle.domain_core.proofs.lemmas.runs.StatesBetweenTicks.{put_apart}
+use Rattle.domain_core.proofs.lemmas.runs.ScheduledTurns.{scheduled_by_step, scheduled_runs_are_whole}
 use Rattle.domain_core.proofs.lemmas.runs.WorkedRuns.{env_in, ticked, takes_turn, zeros}
 use Rattle.sj_main.specs.declared.commands.Turns.{Turns}
 use Rattle.sj_main.specs.declared.commands.Turns.TheVariants.{Each}
-use Rattle.sj_main.specs.definitions.Grammar.{Block, Done, EmptyThen, PauseThen, EmitThen, WhileThen, SendThen, ReceiveThen, SignalPort, Program, blocks_of}
-use Rattle.sj_main.specs.definitions.Programs.{Interface, port_interface, parts_of, block_statement, tables_of_program, program_setup, emits_of}
-use Rattle.sj_main.specs.definitions.Accepted.{Uses, IsSourceOf}
-use Rattle.sj_main.specs.definitions.RunWeight.{turns_of_program}
-use Rattle.sj_main.specs.definitions.Verdicts.{CanRun, IsTextOfRun}
+use Rattle.sj_accept.specs.definitions.Ports.{port_interface}
+use Rattle.sj_accept.specs.definitions.Programs.{Program, domain_statements, tables_for}
+use Rattle.sj_accept.specs.definitions.Accepted.{IsSourceOf}
+use Rattle.sj_main.specs.definitions.Commands.{turns_for, FitDomains, budgets_for}
+use Rattle.sj_main.specs.definitions.RunWeight.{most_run_weight, run_weight}
+use Rattle.sj_main.specs.definitions.Verdicts.{IsTextOfRun}
+use Rattle.sj_main.proofs.SmallSources.{empty_source, blink_source, loop_source}
+use Rattle.sj_main.proofs.SmallPrograms.{setup_with, empty, blink, blinks, looping, loops, loop_body, empty_is_source, blink_is_source, loop_is_source, empty_statements, blink_statements, loop_statements}
 
 -- digits
 
@@ -53,46 +52,24 @@ all_more n t ts h a (suc k) d l = a k d (omega arith)
 
 -- no statement of a program waits at its start
 
-record IsWaitless (p : Stmt) : Type 0 where
-  sends : (c : ℕ) (v : ℤ) → WaitsToSend c v p → ⊥
-  receives : (c : ℕ) → WaitsToReceive c p → ⊥
+pub record IsWaitless (p : Stmt) : Type 0 where
+  pub sends : (c : ℕ) (v : ℤ) → WaitsToSend c v p → ⊥
+  pub receives : (c : ℕ) → WaitsToReceive c p → ⊥
 
-AreWaitless : List Stmt → Type 0
+abbrev pub AreWaitless : List Stmt → Type 0
 AreWaitless [] = Unit {0}
 AreWaitless (p ∷ ps) = IsWaitless p × AreWaitless ps
 
-waitless_both : (p q : Stmt) → IsWaitless p → IsWaitless q → IsWaitless (Seq p q)
+pub waitless_both : (p q : Stmt) → IsWaitless p → IsWaitless q → IsWaitless (Seq p q)
 waitless_both p q a b = record { sends = λ c v w. elim w [ inl x ↦ a.sends c v x | inr x ↦ b.sends c v x ]; receives = λ c w. elim w [ inl x ↦ a.receives c x | inr x ↦ b.receives c x ] }
 
-waitless_from : (p : Stmt) (ps : List Stmt) → IsWaitless p → AreWaitless ps → IsWaitless (sequence_from p ps)
-unfolding AreWaitless
-waitless_from p [] a b = a
-waitless_from p (q ∷ ps) a b = waitless_both p (sequence_from q ps) a (waitless_from q ps b.0 b.1)
+waitless_at : (ps : List Stmt) (d : ℕ) → AreWaitless ps → IsWaitless (get_or ps d Nothing)
+waitless_at [] d a = record { sends = λ c v w. w; receives = λ c w. w }
+waitless_at (p ∷ ps) zero a = a.0
+waitless_at (p ∷ ps) (suc d) a = waitless_at ps d a.1
 
-waitless_sequence : (ps : List Stmt) → AreWaitless ps → IsWaitless (sequence ps)
-unfolding AreWaitless
-waitless_sequence [] a = record { sends = λ c v w. w; receives = λ c w. w }
-waitless_sequence (p ∷ ps) a = waitless_from p ps a.0 a.1
-
-waitless_parts : (i : Interface) (b : Block) → AreWaitless (parts_of i b)
-unfolding AreWaitless
-waitless_parts i Done = tt
-waitless_parts i (EmptyThen rest) = (record { sends = λ c v w. w; receives = λ c w. w }, waitless_parts i rest)
-waitless_parts i (PauseThen rest) = (record { sends = λ c v w. w; receives = λ c w. w }, waitless_parts i rest)
-waitless_parts i (EmitThen name rest) = (record { sends = λ c v w. w; receives = λ c w. w }, waitless_parts i rest)
-waitless_parts i (WhileThen body rest) =
-    let a = waitless_sequence (parts_of i body) (waitless_parts i body) in
-    (record { sends = λ c v w. a.sends c v w; receives = λ c w. a.receives c w }, waitless_parts i rest)
-waitless_parts i (SendThen name n rest) = (record { sends = λ c v w. w; receives = λ c w. w }, waitless_parts i rest)
-waitless_parts i (ReceiveThen name rest) = (record { sends = λ c v w. w; receives = λ c w. w }, waitless_parts i rest)
-
-waitless_domains : (i : Interface) (bs : List Block) (d : ℕ) → IsWaitless (get_or (map (block_statement i) bs) d Nothing)
-waitless_domains i [] d = record { sends = λ c v w. w; receives = λ c w. w }
-waitless_domains i (b ∷ bs) zero = waitless_sequence (parts_of i b) (waitless_parts i b)
-waitless_domains i (b ∷ bs) (suc d) = waitless_domains i bs d
-
-pub fresh : (p : Program) → IsFresh (program_setup p no_inputs)
-fresh p = record { sends = λ d c v w. (waitless_domains (port_interface p.ports) (blocks_of p) d).sends c v w; receives = λ d c w. (waitless_domains (port_interface p.ports) (blocks_of p) d).receives c w }
+pub fresh : (p : Program) (ps : List Stmt) → AreWaitless ps → IsFresh (setup_with p ps)
+fresh p ps a = record { sends = λ d c v w. (waitless_at ps d a).sends c v w; receives = λ d c w. (waitless_at ps d a).receives c w }
 
 -- turns that are taken
 
@@ -125,22 +102,33 @@ pub record IsShownBy (p : Setup) (run : RunState) (turns : List ℕ) (end : Syst
   pub stamps : StampsFrom p run (λ d. 0) (λ c. 0) (λ d. 0) (λ d. 0) moves
   pub marks : (d : ℕ) → d < domain_count p → (log_of run d).mark ≡ (end.domain d).mark
 
--- the run of a source is told by its turns
-pub told_run : (bytes : List ℕ) (turns : Turns) (text : List ℕ) (p : Program) (run : RunState) (end : SystemState) → IsSourceOf bytes p → CanRun p turns → IsSystem (program_setup p no_inputs) → Fits (program_setup p no_inputs) run
-    → IsShownBy (program_setup p no_inputs) run (turns_of_program p turns) end → text ≡ run_text (tables_of_program p) run → IsTextOfRun bytes turns text
-told_run bytes turns text p run end source can system fits shown is =
-    let setup = program_setup p no_inputs in
-    let all = turns_of_program p turns in
-    let scheduled = scheduled_by_step setup run all shown.moves end system (fresh p) fits shown.turned shown.tells shown.stamps shown.marks in
+-- the turns fit so many domains, and their run isn't too heavy
+pub record IsLight (p : Program) (ps : List Stmt) (turns : Turns) : Type 0 where
+  pub fit : FitDomains turns (length ps)
+  pub weight : run_weight (tables_for (port_interface p.ports) ps) (budgets_for turns (length ps)) ≤ most_run_weight
+
+-- the run of a source, whose domains have these statements, is told by its turns
+pub told_run : (bytes : List ℕ) (turns : Turns) (text : List ℕ) (p : Program) (ps : List Stmt) (run : RunState) (end : SystemState) → IsSourceOf bytes p → domain_statements p ≡ ps → IsLight p ps turns → IsSystem (setup_with p ps) → AreWaitless ps
+    → Fits (setup_with p ps) run → IsShownBy (setup_with p ps) run (turns_for turns (length ps)) end → text ≡ run_text (tables_for (port_interface p.ports) ps) run → IsTextOfRun bytes turns text
+told_run bytes turns text p ps run end source statements light system waitless fits shown is =
+    let setup = setup_with p ps in
+    let all = turns_for turns (length ps) in
+    let new = fresh p ps waitless in
+    let scheduled = scheduled_by_step setup run all shown.moves end system new fits shown.turned shown.tells shown.stamps shown.marks in
+    let whole = scheduled_runs_are_whole setup run all end system new fits scheduled in
+    let same = sym statements in
     record {
       program = p;
       source = source;
-      can = can;
+      can = record {
+        fit = subst (λ (qs : List Stmt). FitDomains turns (length qs)) same light.fit;
+        weight = subst (λ (qs : List Stmt). run_weight (tables_for (port_interface p.ports) qs) (budgets_for turns (length qs)) ≤ most_run_weight) same light.weight;
+      };
       run = run;
       last = end;
-      scheduled = scheduled;
-      whole = scheduled_runs_are_whole setup run all end system (fresh p) fits scheduled;
-      is = is;
+      scheduled = subst (λ (qs : List Stmt). IsScheduledRun (setup_with p qs) run (turns_for turns (length qs)) end) same scheduled;
+      whole = subst (λ (qs : List Stmt). IsWholeRun (setup_with p qs) run (turns_for turns (length qs))) same whole;
+      is = subst (λ (qs : List Stmt). text ≡ run_text (tables_for (port_interface p.ports) qs) run) same is;
     }
 
 -- one domain, and no channel
@@ -151,55 +139,28 @@ past_first f x d = put_apart f 0 x (suc d) (λ e. omega arith)
 no_channels : (p : Setup) → channel_count p ≡ 0 → IsSystem p
 no_channels p e = record { sender = λ c h. absurd (omega arith); receiver = λ c h. absurd (omega arith); apart = λ c h. absurd (omega arith) }
 
-no_uses : (uses : Stmt → List ℕ) (s d : ℕ) → uses Nothing ≡ [] → Uses uses [] d s → ⊥
-no_uses uses s d n k = let z : false ≡ true = sym (ap (stands_in s) n) ∙ k in cc
+waitless_emit : (s : ℕ) → IsWaitless (Emit s None)
+waitless_emit s = record { sends = λ c v w. w; receives = λ c w. w }
 
--- a number that stands in a list stands in that of the first domain
-one_owner : (uses : Stmt → List ℕ) (p : Stmt) (s d e : ℕ) → uses Nothing ≡ [] → Uses uses (p ∷ []) d s → Uses uses (p ∷ []) e s → d ≡ e
-one_owner uses p s zero zero n h k = refl
-one_owner uses p s zero (suc e) n h k = absurd (no_uses uses s e n k)
-one_owner uses p s (suc d) e n h k = absurd (no_uses uses s d n h)
+waitless_blink : (s t : ℕ) → IsWaitless (Seq (Emit s None) (Seq Pause (Emit t None)))
+waitless_blink s t = waitless_both (Emit s None) (Seq Pause (Emit t None)) (waitless_emit s) (waitless_both Pause (Emit t None) (record { sends = λ c v w. w; receives = λ c w. w }) (waitless_emit t))
+
+abbrev empty_setup : Setup
+empty_setup = setup_with empty (Nothing ∷ [])
+
+abbrev blink_setup : Setup
+blink_setup = setup_with blink (blinks ∷ [])
+
+abbrev loop_setup : Setup
+loop_setup = setup_with looping (loops ∷ [])
 
 -- the empty program
-
-abbrev empty_source : List ℕ
-empty_source = codes "system{interface{}{}}"
-
-abbrev empty : Program
-empty = record { ports = []; first = Done; others = [] }
-
--- the static rules of one domain without channels
-record KeepsOne (p : Stmt) : Type 0 where
-  loops : LoopsWait p
-  weight : weight_of p ≤ 100000
-
-one_loops : (p : Stmt) → KeepsOne p → (d : ℕ) → LoopsWait (get_or (p ∷ []) d Nothing)
-one_loops p k zero = k.loops
-one_loops p k (suc d) = tt
-
-one_weight : (p : Stmt) → KeepsOne p → (d : ℕ) → weight_of (get_or (p ∷ []) d Nothing) ≤ 100000
-one_weight p k zero = k.weight
-one_weight p k (suc d) = omega arith
-
-empty_is_source : IsSourceOf empty_source empty
-empty_is_source = record {
-  size = omega arith;
-  spells = (_, refl, (_, refl, (_, refl, (_, refl, (_, refl, (_, refl, (_, refl, (_, refl, refl))))))));
-  rules = record {
-    ports = record {
-      names = record { distinct = refl; channels = omega arith; domains = omega arith; blocks = (record { declared = tt; depth = omega arith }, tt) };
-      owners = record { emitters = λ s d e h k. one_owner emits_of Nothing s d e refl h k; few = λ d l. omega arith; joined = λ c l. absurd (omega arith) };
-    };
-    loops = one_loops Nothing (record { loops = tt; weight = omega arith });
-    weight = one_weight Nothing (record { loops = tt; weight = omega arith });
-  };
-}
 
 abbrev ends_at_once : Tick
 ends_at_once = ends_with [] zeros
 
 abbrev empty_end : SystemState
-empty_end = ticked (program_setup empty no_inputs) 0 (start (program_setup empty no_inputs)) ends_at_once
+empty_end = ticked empty_setup 0 (start empty_setup) ends_at_once
 
 abbrev empty_run : RunState
 empty_run = record { logs = record { entries = record { stamp = 1; statuses = [] } ∷ []; mark = Ended } ∷ []; histories = [] }
@@ -213,13 +174,14 @@ empty_marks zero h = refl
 empty_marks (suc d) h = absurd (omega arith)
 
 pub nothing_in_one_turn : IsTextOfRun empty_source (Each (0 ∷ [])) (codes "domain 0 ticks 1 ended\n1 @1\n")
-nothing_in_one_turn = told_run empty_source (Each (0 ∷ [])) (codes "domain 0 ticks 1 ended\n1 @1\n") empty empty_run empty_end empty_is_source
+nothing_in_one_turn = told_run empty_source (Each (0 ∷ [])) (codes "domain 0 ticks 1 ended\n1 @1\n") empty (Nothing ∷ []) empty_run empty_end empty_is_source empty_statements
     (record { fit = all_more 1 0 [] (omega arith) (all_none 1); weight = omega arith })
-    (no_channels (program_setup empty no_inputs) refl)
+    (no_channels empty_setup refl)
+    (record { sends = λ c v w. w; receives = λ c w. w }, tt)
     (record { logs = refl; histories = refl })
     (record {
       moves = MakesTick 0 [] ∷ [];
-      turned = turn_taken (program_setup empty no_inputs) 0 (start (program_setup empty no_inputs)) ends_at_once [] [] empty_end (record { within = omega arith; goes_on = refl; ticks = refl; code = refl }) (refl, refl) (refl, refl);
+      turned = turn_taken empty_setup 0 (start empty_setup) ends_at_once [] [] empty_end (record { within = omega arith; goes_on = refl; ticks = refl; code = refl }) (refl, refl) (refl, refl);
       tells = (omega arith, refl, (empty_ticks, λ c. refl));
       stamps = (refl, tt);
       marks = empty_marks;
@@ -233,46 +195,20 @@ no_ticks : (d : ℕ) → 0 ≡ tick_count still_run d
 no_ticks zero = refl
 no_ticks (suc d) = refl
 
-still_marks : (d : ℕ) → d < 1 → (log_of still_run d).mark ≡ ((start (program_setup empty no_inputs)).domain d).mark
+still_marks : (d : ℕ) → d < 1 → (log_of still_run d).mark ≡ ((start empty_setup).domain d).mark
 still_marks zero h = refl
 still_marks (suc d) h = absurd (omega arith)
 
 pub nothing_in_no_turn : IsTextOfRun empty_source (Each []) (codes "domain 0 ticks 0 paused\n")
-nothing_in_no_turn = told_run empty_source (Each []) (codes "domain 0 ticks 0 paused\n") empty still_run (start (program_setup empty no_inputs)) empty_is_source
+nothing_in_no_turn = told_run empty_source (Each []) (codes "domain 0 ticks 0 paused\n") empty (Nothing ∷ []) still_run (start empty_setup) empty_is_source empty_statements
     (record { fit = all_none 1; weight = omega arith })
-    (no_channels (program_setup empty no_inputs) refl)
+    (no_channels empty_setup refl)
+    (record { sends = λ c v w. w; receives = λ c w. w }, tt)
     (record { logs = refl; histories = refl })
     (record { moves = []; turned = (refl, refl); tells = (no_ticks, λ c. refl); stamps = tt; marks = still_marks })
     (rw zero_text refl)
 
 -- a signal in two ticks
-
-abbrev blink_source : List ℕ
-blink_source = codes "system{interface{output signal A;}{emit A;pause;emit A;}}"
-
-abbrev blink : Program
-blink = record { ports = SignalPort (codes "A") ∷ []; first = EmitThen (codes "A") (PauseThen (EmitThen (codes "A") Done)); others = [] }
-
-abbrev blinks : Stmt
-blinks = Seq (Emit 0 None) (Seq Pause (Emit 0 None))
-
-few_of_one : (t : Tables) (n d : ℕ) → length (signals_of t 0) ≤ 1024 → n ≡ 1 → d < n → length (signals_of t d) ≤ 1024
-few_of_one t n zero h e l = h
-few_of_one t n (suc d) h e l = absurd (omega arith)
-
-blink_is_source : IsSourceOf blink_source blink
-blink_is_source = record {
-  size = omega arith;
-  spells = (_, refl, (_, refl, (_, refl, (_, refl, (_, refl, (_, refl, (_, refl, (_, refl, (_, refl, (_, refl, (_, refl, (_, refl, (_, refl, (_, refl, (_, refl, (_, refl, (_, refl, (_, refl, (_, refl, (_, refl, refl))))))))))))))))))));
-  rules = record {
-    ports = record {
-      names = record { distinct = refl; channels = omega arith; domains = omega arith; blocks = (record { declared = (refl, (refl, tt)); depth = omega arith }, tt) };
-      owners = record { emitters = λ s d e h k. one_owner emits_of blinks s d e refl h k; few = λ d l. few_of_one (tables_of_program blink) 1 d (omega arith) refl l; joined = λ c l. absurd (omega arith) };
-    };
-    loops = one_loops blinks (record { loops = (tt, (tt, tt)); weight = omega arith });
-    weight = one_weight blinks (record { loops = (tt, (tt, tt)); weight = omega arith });
-  };
-}
 
 abbrev of_signal : ℕ → Emission
 of_signal s = record { signal = s; value = pos 0 }
@@ -287,10 +223,10 @@ abbrev first_blink : Tick
 first_blink = record (as_whole 1 (Seq Nothing (Emit 0 None)) pausing) { emits = of_signal 0 ∷ [] }
 
 abbrev blink1 : SystemState
-blink1 = ticked (program_setup blink no_inputs) 0 (start (program_setup blink no_inputs)) first_blink
+blink1 = ticked blink_setup 0 (start blink_setup) first_blink
 
 abbrev blink2 : SystemState
-blink2 = ticked (program_setup blink no_inputs) 0 blink1 (emitting 0)
+blink2 = ticked blink_setup 0 blink1 (emitting 0)
 
 abbrev blink_run : RunState
 blink_run = record {
@@ -308,10 +244,11 @@ blink_marks (suc d) h = absurd (omega arith)
 
 pub blink_in_three_turns : IsTextOfRun blink_source (Each (0 ∷ 0 ∷ 0 ∷ [])) (codes "domain 0 ticks 2 ended\n1 @1 A\n2 @2 A\n")
 blink_in_three_turns =
-    let p = program_setup blink no_inputs in
-    told_run blink_source (Each (0 ∷ 0 ∷ 0 ∷ [])) (codes "domain 0 ticks 2 ended\n1 @1 A\n2 @2 A\n") blink blink_run blink2 blink_is_source
+    let p = blink_setup in
+    told_run blink_source (Each (0 ∷ 0 ∷ 0 ∷ [])) (codes "domain 0 ticks 2 ended\n1 @1 A\n2 @2 A\n") blink (blinks ∷ []) blink_run blink2 blink_is_source blink_statements
     (record { fit = all_more 1 0 (0 ∷ 0 ∷ []) (omega arith) (all_more 1 0 (0 ∷ []) (omega arith) (all_more 1 0 [] (omega arith) (all_none 1))); weight = omega arith })
     (no_channels p refl)
+    (waitless_blink 0 0, tt)
     (record { logs = refl; histories = refl })
     (record {
       moves = MakesTick 0 (Some (pos 0) ∷ []) ∷ MakesTick 0 (Some (pos 0) ∷ []) ∷ [];
@@ -331,32 +268,6 @@ blink_in_three_turns =
 
 -- a loop that starts again in the tick in which its body ends
 
-abbrev loop_source : List ℕ
-loop_source = codes "system{interface{output signal A;output signal B;}{while(true){emit A;pause;emit B;}}}"
-
-abbrev looping : Program
-looping = record { ports = SignalPort (codes "A") ∷ SignalPort (codes "B") ∷ []; first = WhileThen (EmitThen (codes "A") (PauseThen (EmitThen (codes "B") Done))) Done; others = [] }
-
-abbrev loops : Stmt
-loops = Loop (Seq (Emit 0 None) (Seq Pause (Emit 1 None)))
-
-loop_is_source : IsSourceOf loop_source looping
-loop_is_source = record {
-  size = omega arith;
-  spells = (_, refl, (_, refl, (_, refl, (_, refl, (_, refl, (_, refl, (_, refl, (_, refl, (_, refl, (_, refl, (_, refl, (_, refl, (_, refl, (_, refl, (_, refl, (_, refl, (_, refl, (_, refl, (_, refl, (_, refl, (_, refl, (_, refl, (_, refl, (_, refl, (_, refl, (_, refl, (_, refl, (_, refl, (_, refl, (_, refl, refl))))))))))))))))))))))))))))));
-  rules = record {
-    ports = record {
-      names = record { distinct = refl; channels = omega arith; domains = omega arith; blocks = (record { declared = ((refl, (refl, tt)), tt); depth = omega arith }, tt) };
-      owners = record { emitters = λ s d e h k. one_owner emits_of loops s d e refl h k; few = λ d l. few_of_one (tables_of_program looping) 1 d (omega arith) refl l; joined = λ c l. absurd (omega arith) };
-    };
-    loops = one_loops loops (record { loops = (refl, (tt, (tt, tt))); weight = omega arith });
-    weight = one_weight loops (record { loops = (refl, (tt, (tt, tt))); weight = omega arith });
-  };
-}
-
-abbrev loop_body : Stmt
-loop_body = Seq (Emit 0 None) (Seq Pause (Emit 1 None))
-
 abbrev body_pauses : Tick
 body_pauses = record (as_whole 1 (Seq Nothing (Emit 1 None)) pausing) { emits = of_signal 0 ∷ [] }
 
@@ -367,13 +278,13 @@ abbrev loop_restarts : Tick
 loop_restarts = record loop_starts { emits = of_signal 1 ∷ of_signal 0 ∷ [] }
 
 abbrev loop1 : SystemState
-loop1 = ticked (program_setup looping no_inputs) 0 (start (program_setup looping no_inputs)) loop_starts
+loop1 = ticked loop_setup 0 (start loop_setup) loop_starts
 
 abbrev loop2 : SystemState
-loop2 = ticked (program_setup looping no_inputs) 0 loop1 loop_restarts
+loop2 = ticked loop_setup 0 loop1 loop_restarts
 
 abbrev loop3 : SystemState
-loop3 = ticked (program_setup looping no_inputs) 0 loop2 loop_restarts
+loop3 = ticked loop_setup 0 loop2 loop_restarts
 
 abbrev both : List (Option ℤ)
 both = Some (pos 0) ∷ Some (pos 0) ∷ []
@@ -395,7 +306,7 @@ loop_marks : (d : ℕ) → d < 1 → (log_of loop_run d).mark ≡ (loop3.domain 
 loop_marks zero h = refl
 loop_marks (suc d) h = absurd (omega arith)
 
-makes_start : Makes (program_setup looping no_inputs) 0 (start (program_setup looping no_inputs)) loop_starts
+makes_start : Makes loop_setup 0 (start loop_setup) loop_starts
 makes_start = record {
   within = omega arith;
   goes_on = refl;
@@ -403,7 +314,7 @@ makes_start = record {
   code = refl;
 }
 
-makes_second : Makes (program_setup looping no_inputs) 0 loop1 loop_restarts
+makes_second : Makes loop_setup 0 loop1 loop_restarts
 makes_second = record {
   within = omega arith;
   goes_on = refl;
@@ -415,7 +326,7 @@ makes_second = record {
   code = refl;
 }
 
-makes_third : Makes (program_setup looping no_inputs) 0 loop2 loop_restarts
+makes_third : Makes loop_setup 0 loop2 loop_restarts
 makes_third = record {
   within = omega arith;
   goes_on = refl;
@@ -429,10 +340,11 @@ makes_third = record {
 
 pub loop_in_three_turns : IsTextOfRun loop_source (Each (0 ∷ 0 ∷ 0 ∷ [])) (codes "domain 0 ticks 3 paused\n1 @1 A\n2 @2 A B\n3 @3 A B\n")
 loop_in_three_turns =
-    let p = program_setup looping no_inputs in
-    told_run loop_source (Each (0 ∷ 0 ∷ 0 ∷ [])) (codes "domain 0 ticks 3 paused\n1 @1 A\n2 @2 A B\n3 @3 A B\n") looping loop_run loop3 loop_is_source
+    let p = loop_setup in
+    told_run loop_source (Each (0 ∷ 0 ∷ 0 ∷ [])) (codes "domain 0 ticks 3 paused\n1 @1 A\n2 @2 A B\n3 @3 A B\n") looping (loops ∷ []) loop_run loop3 loop_is_source loop_statements
     (record { fit = all_more 1 0 (0 ∷ 0 ∷ []) (omega arith) (all_more 1 0 (0 ∷ []) (omega arith) (all_more 1 0 [] (omega arith) (all_none 1))); weight = omega arith })
     (no_channels p refl)
+    (record { sends = λ c v w. (waitless_blink 0 1).sends c v w; receives = λ c w. (waitless_blink 0 1).receives c w }, tt)
     (record { logs = refl; histories = refl })
     (record {
       moves = MakesTick 0 (Some (pos 0) ∷ None ∷ []) ∷ MakesTick 0 both ∷ MakesTick 0 both ∷ [];

@@ -13,22 +13,12 @@ use Rattle.kernel_terms.specs.Systems.{tables_of, domains_of}
 use Rattle.kernel_terms.specs.Limits.{most_domains, most_channels}
 use Rattle.kernel_terms.specs.TableEntries.{interface_of, numbers_where}
 use Rattle.kernel_terms.specs.WellFormed.{is_within_limits, has_names, is_well_formed}
-use Rattle.tick_log.proofs.Few.{few_signals}
+use Rattle.tick_log.proofs.SignalCountLemmas.{few_signals}
+use Rattle.sj_accept.proofs.TableLemmas.{numbers_count}
 use Rattle.sj_main.specs.definitions.Commands.{most_turns}
 use Rattle.sj_main.specs.definitions.RunWeight.{domain_weight, channel_weight}
 
 -- numbers, counted
-
-one_more : {X : Type 0} (p : X → Bool) (n : ℕ) (x : X) (xs : List X) (b : Bool) → p x ≡ b → length (numbers_where p (suc n) xs) ≡ count_by p xs → length (numbers_where p n (x ∷ xs)) ≡ count_by p (x ∷ xs)
-one_more p n x xs b e h = ap (λ c. length (cond c (n ∷ numbers_where p (suc n) xs) (numbers_where p (suc n) xs))) e ∙ by b ∙ sym (ap (λ c. cond c 1 0 + count_by p xs) e) ∙ sym (sum_by-cons (λ y. cond (p y) 1 0) x xs)
-  where
-    by : (c : Bool) → length (cond c (n ∷ numbers_where p (suc n) xs) (numbers_where p (suc n) xs)) ≡ cond c 1 0 + count_by p xs
-    by true = omega arith
-    by false = omega arith
-
-pub numbers_count : {X : Type 0} (p : X → Bool) (n : ℕ) (xs : List X) → length (numbers_where p n xs) ≡ count_by p xs
-numbers_count p n [] = refl
-numbers_count p n (x ∷ xs) = one_more p n x xs (p x) refl (numbers_count p (suc n) xs)
 
 pub numbers_within : {X : Type 0} (p : X → Bool) (n : ℕ) (xs : List X) → length (numbers_where p n xs) ≤ length xs
 numbers_within p n xs = let a = numbers_count p n xs in let b = count_by-le-length p xs in omega arith

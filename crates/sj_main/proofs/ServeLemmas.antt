@@ -1,23 +1,24 @@
 -- What the answers say.
-use Rattle.std.proofs.Common.{inl, inr, ℕ, List, refl, ap}
+use Rattle.std.proofs.Common.{ℕ, List, refl, ap}
 use Rattle.std.specs.Prelude.{Option, Some, None, IfSome, codes}
 use Rattle.kernel_terms.specs.Systems.{tables_of}
 use Rattle.sj_io.specs.Causes.{Rose}
 use Rattle.sj_io.specs.Files.{CountsStay}
-use Rattle.sj_io.specs.Sinks.{TakesFront}
+use Rattle.sj_io.specs.Sinks.{TakesMore, TakesPrefix}
 use Rattle.tick_log.specs.definitions.RunText.{run_text}
 use Rattle.tick_log.specs.definitions.Holding.{run_state}
 use Rattle.sj_main.specs.declared.commands.Turns.{Turns}
 use Rattle.sj_main.specs.declared.order.Made.{Made}
 use Rattle.sj_main.specs.declared.order.OrderError.TheVariants as error
-use Rattle.sj_main.specs.definitions.Answers.{BeginsAnswer, CountsShow, FailsToRead, PrintsWeight}
+use Rattle.sj_accept.specs.declared.refusal.Refusal.{Refusal}
+use Rattle.sj_main.specs.definitions.Answers.{BeginsAnswer, CountsShow, FailsToRead, PrintsWeight, PrintsRefusal}
 use Rattle.sj_main.specs.Orders.{IsMadeFrom, IsWhy, BeginsOrder, TellsWeight}
 use Rattle.sj_main.specs.definitions.Commands.{IsOrder, IsNoCommand, IsCommand}
-use Rattle.sj_main.specs.definitions.Verdicts.{usage_line, misfit_line, overweight_line, IsTextOfRun, IsRefusal, Outcome, Done, Refused, NoCommand, Misfit, ReadFault, NoMemory, Overweight, IsOrderAnswer, ToNoCommand, ToOrder}
+use Rattle.sj_main.specs.definitions.Verdicts.{usage_line, misfit_line, overweight_line, size_line, refusal_line, IsTextOfRun, IsRefusal, ForSize, ForReason, Outcome, Done, Refused, NoCommand, Misfit, ReadFault, NoMemory, Overweight, IsOrderAnswer, ToNoCommand, ToOrder}
 
 -- to the order of a file
 
-begins : (told : Option (List ℕ)) (turns : Turns) (outcome : Outcome) (text : List ℕ) (file : List ℕ) (f g : List ℕ → ℕ) (a b : Option (List ℕ)) → IsOrderAnswer told turns outcome text → TakesFront a b text → CountsShow (Rose (f file) (g file)) f g outcome → BeginsOrder told turns file f g a b
+begins : (told : Option (List ℕ)) (turns : Turns) (outcome : Outcome) (text : List ℕ) (file : List ℕ) (f g : List ℕ → ℕ) (a b : Option (List ℕ)) → IsOrderAnswer told turns outcome text → TakesPrefix a b text → CountsShow (Rose (f file) (g file)) f g outcome → BeginsOrder told turns file f g a b
 begins told turns outcome text file f g a b is takes c = record { outcome = outcome; text = text; is = is; counts = c; takes = takes }
 
 run_text_of : (told : Option (List ℕ)) (turns : Turns) (made : Made) → IfSome told (λ bytes. IsMadeFrom bytes turns made) → IfSome told (λ bytes. IsTextOfRun bytes turns (run_text (tables_of made.system) (run_state made.run)))
@@ -33,33 +34,37 @@ run_text_of (Some bytes) turns made h = record {
   is = ap (λ t. run_text t (run_state made.run)) h.tables;
 }
 
-pub run_begins : (told : Option (List ℕ)) (turns : Turns) (made : Made) (file : List ℕ) (f g : List ℕ → ℕ) (a b : Option (List ℕ)) → IfSome told (λ bytes. IsMadeFrom bytes turns made) → TakesFront a b (run_text (tables_of made.system) (run_state made.run)) → CountsStay f g → BeginsOrder told turns file f g a b
+pub run_begins : (told : Option (List ℕ)) (turns : Turns) (made : Made) (file : List ℕ) (f g : List ℕ → ℕ) (a b : Option (List ℕ)) → IfSome told (λ bytes. IsMadeFrom bytes turns made) → TakesPrefix a b (run_text (tables_of made.system) (run_state made.run)) → CountsStay f g → BeginsOrder told turns file f g a b
 run_begins told turns made file f g a b h t c = begins told turns Done (run_text (tables_of made.system) (run_state made.run)) file f g a b (run_text_of told turns made h) t c
 
-pub read_fault_begins : (told : Option (List ℕ)) (turns : Turns) (file : List ℕ) (f g : List ℕ → ℕ) (a b : Option (List ℕ)) → TakesFront a b (codes "read fault\n") → Rose (f file) (g file) → BeginsOrder told turns file f g a b
+pub read_fault_begins : (told : Option (List ℕ)) (turns : Turns) (file : List ℕ) (f g : List ℕ → ℕ) (a b : Option (List ℕ)) → TakesPrefix a b (codes "read fault\n") → Rose (f file) (g file) → BeginsOrder told turns file f g a b
 read_fault_begins told turns file f g a b t c = begins told turns ReadFault (codes "read fault\n") file f g a b refl t c
 
-pub no_memory_begins : (told : Option (List ℕ)) (turns : Turns) (file : List ℕ) (f g : List ℕ → ℕ) (a b : Option (List ℕ)) → TakesFront a b (codes "no memory\n") → CountsStay f g → BeginsOrder told turns file f g a b
+pub no_memory_begins : (told : Option (List ℕ)) (turns : Turns) (file : List ℕ) (f g : List ℕ → ℕ) (a b : Option (List ℕ)) → TakesPrefix a b (codes "no memory\n") → CountsStay f g → BeginsOrder told turns file f g a b
 no_memory_begins told turns file f g a b t c = begins told turns NoMemory (codes "no memory\n") file f g a b refl t c
 
-size_refused : (told : Option (List ℕ)) (turns : Turns) → IfSome told (λ bytes. IsWhy bytes turns error.Size) → IfSome told (λ bytes. IsRefusal bytes (codes "refused Size\n"))
+size_refused : (told : Option (List ℕ)) (turns : Turns) → IfSome told (λ bytes. IsWhy bytes turns error.Size) → IfSome told (λ bytes. IsRefusal bytes size_line)
 size_refused None turns h = tt
-size_refused (Some bytes) turns h = inl (h, refl)
+size_refused (Some bytes) turns h = ForSize h refl
 
-pub size_begins : (told : Option (List ℕ)) (turns : Turns) (file : List ℕ) (f g : List ℕ → ℕ) (a b : Option (List ℕ)) → IfSome told (λ bytes. IsWhy bytes turns error.Size) → TakesFront a b (codes "refused Size\n") → CountsStay f g → BeginsOrder told turns file f g a b
-size_begins told turns file f g a b h t c = begins told turns Refused (codes "refused Size\n") file f g a b (size_refused told turns h) t c
+pub size_begins : (told : Option (List ℕ)) (turns : Turns) (file : List ℕ) (f g : List ℕ → ℕ) (a b : Option (List ℕ)) → IfSome told (λ bytes. IsWhy bytes turns error.Size) → TakesPrefix a b size_line → CountsStay f g → BeginsOrder told turns file f g a b
+size_begins told turns file f g a b h t c = begins told turns Refused size_line file f g a b (size_refused told turns h) t c
 
-later_refused : (told : Option (List ℕ)) (turns : Turns) → IfSome told (λ bytes. IsWhy bytes turns error.NotBuiltYet) → IfSome told (λ bytes. IsRefusal bytes (codes "refused Later\n"))
-later_refused None turns h = tt
-later_refused (Some bytes) turns h = inr (h.0, h.1, refl)
+reason_refused : (told : Option (List ℕ)) (turns : Turns) (reason : Refusal) → IfSome told (λ bytes. IsWhy bytes turns (error.Refused reason)) → IfSome told (λ bytes. IsRefusal bytes (refusal_line reason))
+reason_refused None turns reason h = tt
+reason_refused (Some bytes) turns reason h = ForReason reason h.0 h.1 refl
 
-pub later_begins : (told : Option (List ℕ)) (turns : Turns) (file : List ℕ) (f g : List ℕ → ℕ) (a b : Option (List ℕ)) → IfSome told (λ bytes. IsWhy bytes turns error.NotBuiltYet) → TakesFront a b (codes "refused Later\n") → CountsStay f g → BeginsOrder told turns file f g a b
-later_begins told turns file f g a b h t c = begins told turns Refused (codes "refused Later\n") file f g a b (later_refused told turns h) t c
+pub reason_begins : (told : Option (List ℕ)) (turns : Turns) (reason : Refusal) (file : List ℕ) (f g : List ℕ → ℕ) (a b : Option (List ℕ)) → IfSome told (λ bytes. IsWhy bytes turns (error.Refused reason)) → TakesPrefix a b (refusal_line reason) → CountsStay f g → BeginsOrder told turns file f g a b
+reason_begins told turns reason file f g a b h t c = begins told turns Refused (refusal_line reason) file f g a b (reason_refused told turns reason h) t c
 
-pub misfit_begins : (told : Option (List ℕ)) (turns : Turns) (file : List ℕ) (f g : List ℕ → ℕ) (a b : Option (List ℕ)) → IfSome told (λ bytes. IsWhy bytes turns error.DomainsDoNotFit) → TakesFront a b misfit_line → CountsStay f g → BeginsOrder told turns file f g a b
+pub reason_prints : (told : Option (List ℕ)) (turns : Turns) (reason : Refusal) (a b : Option (List ℕ)) → IfSome told (λ bytes. IsWhy bytes turns (error.Refused reason)) → TakesMore a b (refusal_line reason) → IfSome told (λ bytes. PrintsRefusal bytes a b)
+reason_prints None turns reason a b h t = tt
+reason_prints (Some bytes) turns reason a b h t = record { text = refusal_line reason; is = ForReason reason h.0 h.1 refl; takes = t }
+
+pub misfit_begins : (told : Option (List ℕ)) (turns : Turns) (file : List ℕ) (f g : List ℕ → ℕ) (a b : Option (List ℕ)) → IfSome told (λ bytes. IsWhy bytes turns error.DomainsDoNotFit) → TakesPrefix a b misfit_line → CountsStay f g → BeginsOrder told turns file f g a b
 misfit_begins told turns file f g a b h t c = begins told turns Misfit misfit_line file f g a b (h, refl) t c
 
-pub weight_begins : (told : Option (List ℕ)) (turns : Turns) (weight : ℕ) (file : List ℕ) (f g : List ℕ → ℕ) (a b : Option (List ℕ)) → IfSome told (λ bytes. IsWhy bytes turns (error.OverWeight weight)) → TakesFront a b (overweight_line weight) → CountsStay f g → BeginsOrder told turns file f g a b
+pub weight_begins : (told : Option (List ℕ)) (turns : Turns) (weight : ℕ) (file : List ℕ) (f g : List ℕ → ℕ) (a b : Option (List ℕ)) → IfSome told (λ bytes. IsWhy bytes turns (error.OverWeight weight)) → TakesPrefix a b (overweight_line weight) → CountsStay f g → BeginsOrder told turns file f g a b
 weight_begins told turns weight file f g a b h t c = begins told turns (Overweight weight) (overweight_line weight) file f g a b (h, refl) t c
 
 -- to the words
@@ -85,8 +90,8 @@ order_begins words told file turns f g a b o h = record {
 pub order_weighs : (words : List (List ℕ)) (told : List ℕ → Option (List ℕ)) (file : List ℕ) (turns : Turns) (a b : Option (List ℕ)) → IsOrder words file turns → TellsWeight (told file) turns a b → PrintsWeight words told a b
 order_weighs words told file turns a b o h = record { weight = h.weight; orders = record { file = file; turns = turns; command = o; holds = h.is }; takes = h.takes }
 
-pub usage_begins : (words : List (List ℕ)) (told : List ℕ → Option (List ℕ)) (f g : List ℕ → ℕ) (a b : Option (List ℕ)) → IsNoCommand words → TakesFront a b usage_line → CountsStay f g → BeginsAnswer words told f g a b
+pub usage_begins : (words : List (List ℕ)) (told : List ℕ → Option (List ℕ)) (f g : List ℕ → ℕ) (a b : Option (List ℕ)) → IsNoCommand words → TakesPrefix a b usage_line → CountsStay f g → BeginsAnswer words told f g a b
 usage_begins words told f g a b n t c = record { outcome = NoCommand; text = usage_line; is = ToNoCommand n refl refl; counts = c; takes = t }
 
-pub want_begins : (words : List (List ℕ)) (told : List ℕ → Option (List ℕ)) (f g : List ℕ → ℕ) (a b : Option (List ℕ)) → IsCommand words → TakesFront a b (codes "no memory\n") → CountsStay f g → BeginsAnswer words told f g a b
+pub want_begins : (words : List (List ℕ)) (told : List ℕ → Option (List ℕ)) (f g : List ℕ → ℕ) (a b : Option (List ℕ)) → IsCommand words → TakesPrefix a b (codes "no memory\n") → CountsStay f g → BeginsAnswer words told f g a b
 want_begins words told f g a b c t s = record { outcome = NoMemory; text = codes "no memory\n"; is = ToOrder c.file c.turns c.command refl; counts = s; takes = t }

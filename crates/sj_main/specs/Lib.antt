@@ -1,13 +1,3 @@
 pub mod definitions
-pub mod BuiltTerms
-pub mod Reading
-pub mod ReadingTokens
-pub mod ReadingBlocks
-pub mod NamedNumbers
-pub mod ReadingNames
-pub mod ReadingPrograms
-pub mod ReadingOwners
-pub mod StaticRules
 pub mod Words
 pub mod Orders
-pub mod Rules

@@ -3,7 +3,7 @@ use Rattle.std.specs.Prelude.{◌≡◌, ℕ, ◌<◌, ◌≤◌, List, length, 
 use Rattle.kernel_terms.specs.declared.system.System.{System}
 use Rattle.kernel_terms.specs.Systems.{tables_of, domains_of}
 use Rattle.sj_io.specs.Causes.{Rose}
-use Rattle.sj_io.specs.Sinks.{TakesMore, TakesFront}
+use Rattle.sj_io.specs.Sinks.{TakesMore, TakesPrefix}
 use Rattle.tick_log.specs.definitions.Runs.{RunState}
 use Rattle.tick_log.specs.definitions.Holding.{run_state}
 use Rattle.kernel_rules.specs.definitions.LegalTick.{no_inputs}
@@ -13,10 +13,11 @@ use Rattle.gals_core.specs.definitions.OrderRuns.{IsOrderRun}
 use Rattle.sj_main.specs.declared.commands.Turns.{Turns}
 use Rattle.sj_main.specs.declared.order.Made.{Made}
 use Rattle.sj_main.specs.declared.order.OrderError.{OrderError}
-use Rattle.sj_main.specs.declared.order.OrderError.TheVariants.{Fault, Size, NotBuiltYet, DomainsDoNotFit, OverWeight, NoMemory}
-use Rattle.sj_main.specs.definitions.Grammar.{Program}
-use Rattle.sj_main.specs.definitions.Programs.{tables_of_program, program_setup}
-use Rattle.sj_main.specs.definitions.Accepted.{most_source_bytes, IsSourceOf, IsAccepted}
+use Rattle.sj_main.specs.declared.order.OrderError.TheVariants.{Fault, Size, Refused, DomainsDoNotFit, OverWeight, NoMemory}
+use Rattle.sj_accept.specs.definitions.Programs.{Program, tables_of_program}
+use Rattle.sj_accept.specs.definitions.Accepted.{most_source_bytes, IsSourceOf}
+use Rattle.sj_accept.specs.definitions.Refusals.{IsRefusedFor}
+use Rattle.sj_main.specs.definitions.ProgramSetups.{program_setup}
 use Rattle.sj_main.specs.definitions.Commands.{turns_for, FitDomains, budgets_for}
 use Rattle.sj_main.specs.definitions.RunWeight.{most_run_weight, run_weight, turns_of_program}
 use Rattle.sj_main.specs.definitions.Answers.{CountsShow}
@@ -48,7 +49,7 @@ pub record WeighsTooMuch (system : System) (turns : Turns) (weight : ℕ) : Type
 abbrev pub IsWhyNoRun : System → Turns → OrderError → Type 0
 IsWhyNoRun system turns Fault = ⊥
 IsWhyNoRun system turns Size = ⊥
-IsWhyNoRun system turns NotBuiltYet = ⊥
+IsWhyNoRun system turns (Refused reason) = ⊥
 IsWhyNoRun system turns DomainsDoNotFit = FitDomains turns (length (domains_of system)) → ⊥
 IsWhyNoRun system turns (OverWeight weight) = WeighsTooMuch system turns weight
 IsWhyNoRun system turns NoMemory = Unit {0}
@@ -57,7 +58,7 @@ IsWhyNoRun system turns NoMemory = Unit {0}
 abbrev pub IsWhy : List ℕ → Turns → OrderError → Type 0
 IsWhy bytes turns Fault = Unit {0}
 IsWhy bytes turns Size = most_source_bytes < length bytes
-IsWhy bytes turns NotBuiltYet = (length bytes ≤ most_source_bytes) × (IsAccepted bytes → ⊥)
+IsWhy bytes turns (Refused reason) = (length bytes ≤ most_source_bytes) × IsRefusedFor bytes reason
 IsWhy bytes turns DomainsDoNotFit = IsMisfit bytes turns
 IsWhy bytes turns (OverWeight weight) = IsOverweight bytes turns weight
 IsWhy bytes turns NoMemory = Unit {0}
@@ -68,11 +69,11 @@ pub record TellsWeight (told : Option (List ℕ)) (turns : Turns) (old new : Opt
   pub is : IfSome told (λ bytes. IsOverweight bytes turns weight)
   pub takes : TakesMore old new (overweight_line weight)
 
--- the sink took a front of the text that some answer to the order of these bytes has, and the files' counts
+-- the sink took a prefix of the text that some answer to the order of these bytes has, and the files' counts
 -- fit that answer
 pub record BeginsOrder (told : Option (List ℕ)) (turns : Turns) (file : List ℕ) (faults faults' : List ℕ → ℕ) (old new : Option (List ℕ)) : Type 0 where
   pub outcome : Outcome
   pub text : List ℕ
   pub is : IsOrderAnswer told turns outcome text
   pub counts : CountsShow (Rose (faults file) (faults' file)) faults faults' outcome
-  pub takes : TakesFront old new text
+  pub takes : TakesPrefix old new text

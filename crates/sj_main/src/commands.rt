@@ -7,7 +7,7 @@ ghost use Rattle.std.specs.Prelude.{◌≡◌, ◌≢◌, ◌∷◌, ◌++◌, �
 ghost use Rattle.sj_main.specs.Words.{BeginsTwo, NoTwo, BeginsTurn, NoTurn, NoList, IsLast, IsMore, HasList, NoFewTurns, IsTurnList, NoEach, HasEach, NoRounds, NoTurns, HasTurns, AreOrderWords, NoOrderWords};
 ghost use Rattle.sj_main.specs.definitions.Commands.{most_turns, whole_number, IsEach, IsRoundCount, IsTurns, IsOrder, IsNoCommand, word_list, IsCommand};
 
-use crate::reader::numbers::number_in;
+use crate::numbers::number_in;
 use java_values::NoMemory;
 use sqlite_items::Items;
 use std::alloc::Global;
@@ -118,9 +118,9 @@ fn is_list(word: &[u8]) -> bool
     ensures { MatchBool result (HasList word.now) (NoFewTurns word.now) }
 {
     let mut counts = [0u32; 16];
-    let mut front = word;
+    let mut left = word;
     loop {
-        let Some(Listed { domain, after }) = first_listed(front) else {
+        let Some(Listed { domain, after }) = first_listed(left) else {
             return false;
         };
         if counts[domain as usize] == MOST_TURNS {
@@ -128,7 +128,7 @@ fn is_list(word: &[u8]) -> bool
         }
         counts[domain as usize] += 1;
         match after {
-            Some(rest) => front = rest,
+            Some(rest) => left = rest,
             None => return true,
         }
     }
@@ -141,14 +141,14 @@ fn read_list(alloc: Global, word: &[u8]) -> Result<Vec<u32>, NoMemory>
     ensures { IfOk result (λ v. IsTurnList word.now v.items) }
 {
     let mut turns = Vec::new(alloc);
-    let mut front = word;
+    let mut left = word;
     loop {
-        let Some(Listed { domain, after }) = first_listed(front) else {
+        let Some(Listed { domain, after }) = first_listed(left) else {
             unreachable!()
         };
         turns.push(domain)?;
         match after {
-            Some(rest) => front = rest,
+            Some(rest) => left = rest,
             None => return Ok(turns),
         }
     }
@@ -180,7 +180,7 @@ fn whole_number(word: &[u8]) -> Option<u32>
     if *first == b'0' && !rest.is_empty() {
         return None;
     }
-    let number = number_in(10, u64::from(MOST_TURNS), word)?;
+    let number = number_in(u64::from(MOST_TURNS), word)?;
     Some(number as u32)
 }
 

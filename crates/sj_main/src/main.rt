@@ -1,17 +1,14 @@
 //! The command: compiles a program to equations over wires, and runs it.
 #![tactic(auto)]
 
-mod accept;
 mod commands;
 mod laws;
-mod loops;
+mod numbers;
 mod order;
-mod reader;
 mod rows;
 mod serve;
 #[cfg(test)]
 mod tests;
-mod token;
 mod turns;
 
 use serve::serve_plain;

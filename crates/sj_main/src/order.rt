@@ -10,13 +10,13 @@ ghost use Rattle.gals_core.specs.definitions.OrderPlans.{AreDomainsOf};
 ghost use Rattle.sj_main.specs.Words.{AreFew};
 ghost use Rattle.sj_main.specs.Orders.{IsMadeFrom, IsWhy, RunsTurns, IsWhyNoRun};
 
-use crate::accept::accept;
 use crate::commands::Turns;
 use crate::turns::{budgets, fit, list_rounds, run_weight};
 use domain_core::{CompileError, Domain, compile};
 use gals_core::{OrderPlan, run_order};
 use java_values::NoMemory;
 use kernel_terms::System;
+use sj_accept::{AcceptError, Refusal, accept};
 use sj_io::{Files, ReadError, read_all};
 use std::alloc::Global;
 use thiserror::Error;
@@ -44,9 +44,9 @@ pub enum OrderError {
     /// The source has more than 1,048,576 bytes.
     #[error("the source is too big")]
     Size,
-    /// The source has a form that isn't built yet, or breaks a rule.
-    #[error("the source is not accepted")]
-    NotBuiltYet,
+    /// The source is refused.
+    #[error("{0}")]
+    Refused(Refusal),
     /// A turn is one of no domain of the source.
     #[error("a turn is one of no domain")]
     DomainsDoNotFit,
@@ -133,7 +133,7 @@ pub fn order<F: Files>(
     ensures made { IfOk result (λ made. IfSome (F.told files.old file.now) (λ bytes. IsMadeFrom bytes turns.now made)) }
     ensures holds { IfOk result (λ made. HoldsRun made.system made.run) }
     ensures fault { IsErrOf result OrderError.Fault → Rose (F.faults files.old file.now) (F.faults files.new file.now) }
-    ensures calm { (IsErrOf result OrderError.Fault → ⊥) → CountsStay (F.faults files.old) (F.faults files.new) }
+    ensures counts_stay { (IsErrOf result OrderError.Fault → ⊥) → CountsStay (F.faults files.old) (F.faults files.new) }
     ensures why { IfErr result (λ e. IfSome (F.told files.old file.now) (λ bytes. IsWhy bytes turns.now e)) }
 {
     let bytes = match read_all(alloc, files, file, MOST_SOURCE_BYTES) {
@@ -142,8 +142,10 @@ pub fn order<F: Files>(
         Err(ReadError::TooBig) => return Err(OrderError::Size),
         Err(ReadError::NoMemory) => return Err(OrderError::NoMemory),
     };
-    let Some(system) = accept(alloc, &bytes)? else {
-        return Err(OrderError::NotBuiltYet);
+    let system = match accept(alloc, &bytes) {
+        Ok(system) => system,
+        Err(AcceptError::Refused(refusal)) => return Err(OrderError::Refused(refusal)),
+        Err(AcceptError::NoMemory) => return Err(OrderError::NoMemory),
     };
     let run = run_of(alloc, &system, turns)?;
     Ok(Made { system, run })

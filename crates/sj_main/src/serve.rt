@@ -3,18 +3,19 @@
 ghost use Rattle.std.specs.Prelude.{◌≡◌, ◌≢◌, ◌⊎◌, ◌≤◌, true, IfSome, codes};
 ghost use Rattle.sj_io.specs.Causes.{Rose};
 ghost use Rattle.sj_io.specs.Files.{CountsStay};
-ghost use Rattle.sj_io.specs.Sinks.{TakesMore, TakesFront};
+ghost use Rattle.sj_io.specs.Sinks.{TakesMore, TakesPrefix};
 ghost use Rattle.tick_log.specs.Puts.{Puts};
 ghost use Rattle.sj_main.specs.Words.{AreFew};
 ghost use Rattle.sj_main.specs.definitions.Answers.{PrintsRun, PrintsRefusal, PrintsWeight, FailsToRead, BeginsAnswer};
 ghost use Rattle.sj_main.specs.Orders.{BeginsOrder, TellsWeight};
 ghost use Rattle.sj_main.specs.definitions.Commands.{IsNoCommand, word_list, IsCommand};
-ghost use Rattle.sj_main.specs.definitions.Verdicts.{usage_line, misfit_line, overweight_line, IsMisfit, OrdersSuch};
+ghost use Rattle.sj_main.specs.definitions.Verdicts.{usage_line, misfit_line, numbered_line, refusal_line, IsMisfit, OrdersSuch};
 
 use crate::commands::{Turns, read_order};
 use crate::order::{OrderError, order};
 use itoa::Buffer;
 use java_values::NoMemory;
+use sj_accept::Refusal;
 use sj_io::{Files, Sink, write_all};
 use std::alloc::Global;
 use tick_log::print;
@@ -28,7 +29,7 @@ pub fn answer<K: Sink>(out: &mut K, line: &[u8], status: u8) -> u8
     ensures status { (result ≡ status) ⊎ (result ≡ 4) }
     ensures ok { result ≢ 4 → TakesMore (K.taken out.old) (K.taken out.new) line.now }
     ensures fault { result ≡ 4 → Rose (K.faults out.old) (K.faults out.new) }
-    ensures front { result ≡ 4 → TakesFront (K.taken out.old) (K.taken out.new) line.now }
+    ensures takes_prefix { result ≡ 4 → TakesPrefix (K.taken out.old) (K.taken out.new) line.now }
 {
     match write_all(out, line) {
         Ok(()) => status,
@@ -47,24 +48,48 @@ fn put<K: Sink>(out: &mut K, ok: bool, bytes: &[u8]) -> bool
     }
 }
 
-// Writes the line of a run weight above the limit.
-fn put_weight<K: Sink>(out: &mut K, weight: u64) -> bool
-    ensures { Puts true result (K.taken out.old) (K.taken out.new) (K.faults out.old) (K.faults out.new) (overweight_line weight) }
+// Writes the line of a text and a number.
+fn put_numbered<K: Sink>(out: &mut K, text: &[u8], number: u64) -> bool
+    ensures { Puts true result (K.taken out.old) (K.taken out.new) (K.faults out.old) (K.faults out.new) (numbered_line text.now number) }
 {
     let mut buffer = Buffer::new();
-    let begun = put(out, true, b"over the run weight ");
-    let told = put(out, begun, buffer.format(weight).as_bytes());
+    let begun = put(out, true, text);
+    let told = put(out, begun, buffer.format(number).as_bytes());
     put(out, told, b"\n")
 }
 
-// Writes the line of a run weight above the limit, and answers its status, or 4 where the sink fails.
-fn answer_weight<K: Sink>(out: &mut K, weight: u64) -> u8
-    ensures status { (result ≡ 7) ⊎ (result ≡ 4) }
-    ensures ok { result ≡ 7 → TakesMore (K.taken out.old) (K.taken out.new) (overweight_line weight) }
+// Writes the line of a text and a number, and answers its status, or 4 where the sink fails.
+fn answer_numbered<K: Sink>(out: &mut K, text: &[u8], number: u64, status: u8) -> u8
+    requires { status ≢ 4 }
+    ensures status { (result ≡ status) ⊎ (result ≡ 4) }
+    ensures ok { result ≢ 4 → TakesMore (K.taken out.old) (K.taken out.new) (numbered_line text.now number) }
     ensures fault { result ≡ 4 → Rose (K.faults out.old) (K.faults out.new) }
-    ensures front { result ≡ 4 → TakesFront (K.taken out.old) (K.taken out.new) (overweight_line weight) }
+    ensures takes_prefix { result ≡ 4 → TakesPrefix (K.taken out.old) (K.taken out.new) (numbered_line text.now number) }
 {
-    if put_weight(out, weight) { 7 } else { 4 }
+    if put_numbered(out, text, number) {
+        status
+    } else {
+        4
+    }
+}
+
+// Writes the line of a refusal, and answers its status, or 4 where the sink fails.
+fn answer_refusal<K: Sink>(out: &mut K, refusal: Refusal) -> u8
+    ensures status { (result ≡ 1) ⊎ (result ≡ 4) }
+    ensures ok { result ≢ 4 → TakesMore (K.taken out.old) (K.taken out.new) (refusal_line refusal) }
+    ensures fault { result ≡ 4 → Rose (K.faults out.old) (K.faults out.new) }
+    ensures takes_prefix { result ≡ 4 → TakesPrefix (K.taken out.old) (K.taken out.new) (refusal_line refusal) }
+{
+    match refusal {
+        Refusal::BadByte(at) => answer_numbered(out, b"refused BadByte at ", u64::from(at), 1),
+        Refusal::BadNumber(at) => answer_numbered(out, b"refused BadNumber at ", u64::from(at), 1),
+        Refusal::OpenComment(at) => {
+            answer_numbered(out, b"refused OpenComment at ", u64::from(at), 1)
+        }
+        Refusal::Syntax(at) => answer_numbered(out, b"refused Syntax at ", u64::from(at), 1),
+        Refusal::TooDeep(at) => answer_numbered(out, b"refused TooDeep at ", u64::from(at), 1),
+        Refusal::Later => answer(out, b"refused Later\n", 1),
+    }
 }
 
 // Runs the order of a file and turns.
@@ -83,7 +108,7 @@ fn serve_order<F: Files, K: Sink>(
     ensures read_fault { result ≡ 3 → Rose (F.faults files.old file.now) (F.faults files.new file.now) × TakesMore (K.taken out.old) (K.taken out.new) (codes "read fault\n") }
     ensures write_fault { result ≡ 4 → Rose (K.faults out.old) (K.faults out.new) × BeginsOrder (F.told files.old file.now) turns.now file.now (F.faults files.old) (F.faults files.new) (K.taken out.old) (K.taken out.new) }
     ensures no_memory { result ≡ 5 → TakesMore (K.taken out.old) (K.taken out.new) (codes "no memory\n") }
-    ensures calm { result ≢ 3 → result ≢ 4 → CountsStay (F.faults files.old) (F.faults files.new) }
+    ensures counts_stay { result ≢ 3 → result ≢ 4 → CountsStay (F.faults files.old) (F.faults files.new) }
     ensures weight { result ≡ 7 → TellsWeight (F.told files.old file.now) turns.now (K.taken out.old) (K.taken out.new) }
 {
     match order(alloc, file, turns, files) {
@@ -93,9 +118,14 @@ fn serve_order<F: Files, K: Sink>(
         },
         Err(OrderError::Fault) => answer(out, b"read fault\n", 3),
         Err(OrderError::Size) => answer(out, b"refused Size\n", 1),
-        Err(OrderError::NotBuiltYet) => answer(out, b"refused Later\n", 1),
+        Err(OrderError::Refused(refusal)) => answer_refusal(out, refusal),
         Err(OrderError::DomainsDoNotFit) => answer(out, b"domains do not fit\n", 2),
-        Err(OrderError::OverWeight(weight)) => answer_weight(out, weight),
+        Err(OrderError::OverWeight(weight)) => answer_numbered(
+            out,
+            b"over the run weight ",
+            weight,
+            7,
+        ),
         Err(OrderError::NoMemory) => answer(out, b"no memory\n", 5),
     }
 }
@@ -107,7 +137,7 @@ fn serve_order<F: Files, K: Sink>(
 /// - 2: the words are no command, and the sink took the usage line; or a turn is one of no domain of
 ///   the source, and it took `domains do not fit`;
 /// - 3: a read of the named file failed, and the sink took `read fault`;
-/// - 4: a write failed, and the sink took a front of the text;
+/// - 4: a write failed, and the sink took a prefix of the text;
 /// - 5: an allocation was refused, and the sink took `no memory`;
 /// - 7: the run would weigh more than 4,000,000, and the sink took the line that tells its weight.
 #[tactic(auto, using(crate::proofs::ReadTurns::orders_few))]
@@ -127,7 +157,7 @@ pub fn serve_plain<F: Files, K: Sink>(
     ensures read_fault { result ≡ 3 → FailsToRead (word_list words.now) (F.faults files.old) (F.faults files.new) × TakesMore (K.taken out.old) (K.taken out.new) (codes "read fault\n") }
     ensures write_fault { result ≡ 4 → Rose (K.faults out.old) (K.faults out.new) × BeginsAnswer (word_list words.now) (F.told files.old) (F.faults files.old) (F.faults files.new) (K.taken out.old) (K.taken out.new) }
     ensures no_memory { result ≡ 5 → IsCommand (word_list words.now) × TakesMore (K.taken out.old) (K.taken out.new) (codes "no memory\n") }
-    ensures calm { result ≢ 3 → result ≢ 4 → CountsStay (F.faults files.old) (F.faults files.new) }
+    ensures counts_stay { result ≢ 3 → result ≢ 4 → CountsStay (F.faults files.old) (F.faults files.new) }
     ensures unread { IsNoCommand (word_list words.now) → CountsStay (F.faults files.old) (F.faults files.new) }
     ensures weight { result ≡ 7 → PrintsWeight (word_list words.now) (F.told files.old) (K.taken out.old) (K.taken out.new) }
 {

@@ -187,18 +187,156 @@ fn a_run_weighs_at_most_four_millions(rt: HostRuntime) -> Result<(), Fail> {
     Ok(())
 }
 
+// In each turn domain 0 weighs 40, since the signals that no domain emits are its own, and domain 1 weighs 1.
 #[test]
-fn refuses_sources(rt: HostRuntime) -> Result<(), Fail> {
-    let cases: [&[u8]; 4] = [
+fn signals_that_none_emits_are_of_domain_0(rt: HostRuntime) -> Result<(), Fail> {
+    let source = wide_source(rt.alloc())?;
+    let source = source.as_bytes();
+    let mut turns = String::from_str(rt.alloc(), "0")?;
+    for _ in 1..100_000 {
+        turns.push_str(",0")?;
+    }
+    let text = b"domain 0 ticks 1 ended\n1 @1\ndomain 1 ticks 0 paused\n";
+    prints(&rt, rt.alloc(), source, turns.as_str(), text)?;
+    turns.push_str(",1")?;
+    let order = ["order", "F", turns.as_str(), "-"];
+    let (status, written) = serve(rt.alloc(), &order, source, 100)?;
+    assert_eq!(rt; status, 7);
+    assert_eq!(rt;
+        written.as_slice(),
+        b"over the run weight 4000001\n".as_slice()
+    );
+    Ok(())
+}
+
+// An order of a source without a turn is refused with this line.
+fn refuses<R: Abort>(rt: &R, alloc: Global, source: &[u8], line: &[u8]) -> Result<(), Fail> {
+    let (status, written) = serve(alloc, &["order", "F", "-", "-"], source, 7)?;
+    assert_eq!(rt; status, 1);
+    assert_eq!(rt; written.as_slice(), line);
+    Ok(())
+}
+
+#[test]
+fn refuses_bad_tokens_at_their_places(rt: HostRuntime) -> Result<(), Fail> {
+    let cases: [(&[u8], &[u8]); 7] = [
+        (b"system{interface{}{@}}", b"refused BadByte at 19\n"),
+        (b"system{interface{}{}}'", b"refused BadByte at 21\n"),
+        (
+            b"system{interface{output signal a123456789b123456789c123456789d123456789e123456789f123456789g1234;}{}}",
+            b"refused BadByte at 95\n",
+        ),
+        (
+            b"system{interface{output int signal A;}{emit A(4294967296);}}",
+            b"refused BadNumber at 46\n",
+        ),
+        (
+            b"system{interface{int channel C;}{send C(01);}><{receive C;}}",
+            b"refused BadNumber at 40\n",
+        ),
+        (b"system{/*", b"refused OpenComment at 7\n"),
+        (
+            b"system{interface{}{} // } */ /* \n/* * /",
+            b"refused OpenComment at 33\n",
+        ),
+    ];
+    for (source, line) in cases {
+        refuses(&rt, rt.alloc(), source, line)?;
+    }
+    Ok(())
+}
+
+#[test]
+fn refuses_other_tokens_at_their_places(rt: HostRuntime) -> Result<(), Fail> {
+    let cases: [(&[u8], &[u8]); 7] = [
+        (b"", b"refused Syntax at 0\n"),
+        (b" // none", b"refused Syntax at 8\n"),
+        (b"system{interface{}}", b"refused Syntax at 18\n"),
+        (b"system{interface{}{emit}}", b"refused Syntax at 23\n"),
+        (
+            b"system{interface{output int signal A;}{emit A(2147483648);}}",
+            b"refused Syntax at 46\n",
+        ),
+        (b"system{interface{}{}} {", b"refused Syntax at 22\n"),
+        (
+            b"system{interface{output signal loop;}{}}",
+            b"refused Syntax at 31\n",
+        ),
+    ];
+    for (source, line) in cases {
+        refuses(&rt, rt.alloc(), source, line)?;
+    }
+    Ok(())
+}
+
+fn push_times(bytes: &mut Vec<u8>, byte: u8, times: usize) -> Result<(), Fail> {
+    for _ in 0..times {
+        bytes.push(byte)?;
+    }
+    Ok(())
+}
+
+#[test]
+fn at_most_64_levels_are_open(rt: HostRuntime) -> Result<(), Fail> {
+    let cases: [(usize, &[u8]); 2] = [(63, b"refused Later\n"), (64, b"refused TooDeep at 81\n")];
+    for (blocks, line) in cases {
+        let mut source = Vec::from_slice(rt.alloc(), b"system{interface{}")?;
+        push_times(&mut source, b'{', blocks)?;
+        push_times(&mut source, b'}', blocks + 1)?;
+        refuses(&rt, rt.alloc(), &source, line)?;
+    }
+    Ok(())
+}
+
+#[test]
+fn an_expression_has_at_most_256_operators(rt: HostRuntime) -> Result<(), Fail> {
+    let cases: [(usize, &[u8]); 2] = [
+        (256, b"refused Later\n"),
+        (257, b"refused TooDeep at 302\n"),
+    ];
+    for (signs, line) in cases {
+        let mut source = Vec::from_slice(
+            rt.alloc(),
+            b"system{interface{output int signal A;}{emit A(",
+        )?;
+        push_times(&mut source, b'-', signs)?;
+        source.extend_from_slice(b"1);}}")?;
+        refuses(&rt, rt.alloc(), &source, line)?;
+    }
+    Ok(())
+}
+
+#[test]
+fn refuses_other_sources_as_not_built_yet(rt: HostRuntime) -> Result<(), Fail> {
+    let cases: [&[u8]; 6] = [
         b"system{interface{output signal A;}{while(true){emit A;}}}",
         b"system{interface{output signal A;}{emit B;}}",
+        b"system{interface{output signal A;output signal A;}{}}",
         b"system{interface{}{signal A;}}",
-        b"",
+        b"system{interface{input signal A;}{}}",
+        b"system{interface{int channel C;}{send C(1);}><{}}",
     ];
     for source in cases {
-        let (status, written) = serve(rt.alloc(), &["order", "F", "0", "-"], source, 100)?;
-        assert_eq!(rt; status, 1);
-        assert_eq!(rt; written.as_slice(), b"refused Later\n".as_slice());
+        refuses(&rt, rt.alloc(), source, b"refused Later\n")?;
+    }
+    Ok(())
+}
+
+#[test]
+fn comments_stand_between_tokens(rt: HostRuntime) -> Result<(), Fail> {
+    let cases: [&[u8]; 3] = [
+        b"// a\nsystem{interface{}{}}",
+        b"system/* { */{interface{}{/**/}}//",
+        b"system{interface{}{;/* ; // */;}} // none",
+    ];
+    for source in cases {
+        prints(
+            &rt,
+            rt.alloc(),
+            source,
+            "0",
+            b"domain 0 ticks 1 ended\n1 @1\n",
+        )?;
     }
     Ok(())
 }
@@ -206,8 +344,8 @@ fn refuses_sources(rt: HostRuntime) -> Result<(), Fail> {
 #[test]
 fn a_source_has_at_most_1_048_576_bytes(rt: HostRuntime) -> Result<(), Fail> {
     let cases: [(usize, &[u8]); 3] = [
-        (600_000, b"refused Later\n"),
-        (1_048_576, b"refused Later\n"),
+        (600_000, b"refused Syntax at 600000\n"),
+        (1_048_576, b"refused Syntax at 1048576\n"),
         (1_048_577, b"refused Size\n"),
     ];
     for (bytes, line) in cases {

@@ -2,7 +2,7 @@
 use Rattle.std.specs.Prelude.{ℕ, List, Option}
 use Rattle.sj_io.specs.Causes.{Rose}
 use Rattle.sj_io.specs.Files.{CountsStay}
-use Rattle.sj_io.specs.Sinks.{TakesMore, TakesFront}
+use Rattle.sj_io.specs.Sinks.{TakesMore, TakesPrefix}
 use Rattle.sj_main.specs.declared.commands.Turns.{Turns}
 use Rattle.sj_main.specs.definitions.Commands.{IsOrder}
 use Rattle.sj_main.specs.definitions.Verdicts.{IsTextOfRun, IsRefusal, IsOverweight, OrdersSuch, Outcome, Done, Refused, NoCommand, Misfit, ReadFault, NoMemory, Overweight, IsAnswer, overweight_line}
@@ -43,10 +43,10 @@ CountsShow cause faults faults' ReadFault = cause
 CountsShow cause faults faults' NoMemory = CountsStay faults faults'
 CountsShow cause faults faults' (Overweight weight) = CountsStay faults faults'
 
--- the sink took a front of the text that some answer to the words has, and the files' counts fit that answer
+-- the sink took a prefix of the text that some answer to the words has, and the files' counts fit that answer
 pub record BeginsAnswer (words : List (List ℕ)) (told : List ℕ → Option (List ℕ)) (faults faults' : List ℕ → ℕ) (old new : Option (List ℕ)) : Type 0 where
   pub outcome : Outcome
   pub text : List ℕ
   pub is : IsAnswer words told outcome text
   pub counts : CountsShow (FailsToRead words faults faults') faults faults' outcome
-  pub takes : TakesFront old new text
+  pub takes : TakesPrefix old new text

@@ -1,10 +1,10 @@
 -- The words of a command.
-use Rattle.std.specs.Prelude.{◌≡◌, ℕ, zero, suc, ◌+◌, ◌<◌, ◌≤◌, ◌==◌, nat_lt, cond, List, [], ◌∷◌, ◌++◌, map, All, Option, Some, None, codes, string_bytes}
+use Rattle.std.specs.Prelude.{◌≡◌, ℕ, zero, suc, ◌+◌, ◌-◌, ◌*◌, ◌<◌, ◌≤◌, ◌==◌, ◌&&◌, nat_le, nat_lt, cond, List, [], ◌∷◌, ◌++◌, map, All, Option, Some, None, codes, string_bytes}
 use Rattle.std.specs.List.{range_with_len}
 use Rattle.std.specs.declared.alloc.Global.{Global}
 use Rattle.std.specs.declared.string.String.{String}
 use Rattle.domain_core.specs.definitions.runs.Scheduled.{turns_of}
-use Rattle.sj_main.specs.definitions.Tokens.{number_from}
+use Rattle.java_values.specs.Names.{is_digit}
 use Rattle.sj_main.specs.declared.commands.Turns.{Turns}
 use Rattle.sj_main.specs.declared.commands.Turns.TheVariants.{Rounds, Each}
 
@@ -12,11 +12,17 @@ use Rattle.sj_main.specs.declared.commands.Turns.TheVariants.{Rounds, Each}
 abbrev pub most_turns : ℕ
 most_turns = 100000
 
+-- the number that is written by the decimal digits after those that give the first number, where no number on the way
+-- is above the limit
+abbrev pub number_from : ℕ → ℕ → List ℕ → Option ℕ
+number_from limit n [] = Some n
+number_from limit n (b ∷ bs) = cond (is_digit b && nat_le (n * 10 + (b - 48)) limit) (number_from limit (n * 10 + (b - 48)) bs) None
+
 -- the number that a word is in decimal, with no zero before it, where it is within the limit
 abbrev pub whole_number : ℕ → List ℕ → Option ℕ
 whole_number limit [] = None
-whole_number limit (b ∷ []) = number_from 10 limit 0 (b ∷ [])
-whole_number limit (b ∷ c ∷ rest) = cond (b == 48) None (number_from 10 limit 0 (b ∷ c ∷ rest))
+whole_number limit (b ∷ []) = number_from limit 0 (b ∷ [])
+whole_number limit (b ∷ c ∷ rest) = cond (b == 48) None (number_from limit 0 (b ∷ c ∷ rest))
 
 -- a domain's number below 16 in decimal
 abbrev pub turn_text : ℕ → List ℕ

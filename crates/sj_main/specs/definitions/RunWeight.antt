@@ -5,8 +5,7 @@ use Rattle.kernel_terms.specs.declared.tables.ChannelInfo.{ChannelInfo}
 use Rattle.kernel_terms.specs.declared.tables.Tables.{Tables}
 use Rattle.kernel_terms.specs.TableEntries.{interface_of}
 use Rattle.sj_main.specs.declared.commands.Turns.{Turns}
-use Rattle.sj_main.specs.definitions.Grammar.{Program}
-use Rattle.sj_main.specs.definitions.Programs.{domain_statements, tables_of_program}
+use Rattle.sj_accept.specs.definitions.Programs.{Program, domain_statements, tables_of_program}
 use Rattle.sj_main.specs.definitions.Commands.{turns_for, budgets_for}
 
 abbrev pub most_run_weight : ℕ

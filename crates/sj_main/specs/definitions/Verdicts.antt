@@ -1,15 +1,18 @@
 -- What is answered, in the order in which it is looked for: the words, the reading of the source, its
--- size, its grammar and rules, whether the turns fit its domains, the run's weight, and then the run.
-use Rattle.std.specs.Prelude.{◌≡◌, ◌⊎◌, ℕ, ◌<◌, ◌≤◌, List, ◌++◌, length, Option, IfSome, codes, decimal}
+-- size, its tokens, grammar and rules, whether the turns fit its domains, the run's weight, and then the run.
+use Rattle.std.specs.Prelude.{◌≡◌, ℕ, ◌<◌, ◌≤◌, List, ◌++◌, length, Option, IfSome, codes, decimal}
 use Rattle.tick_log.specs.definitions.Runs.{RunState}
 use Rattle.tick_log.specs.definitions.RunText.{run_text}
 use Rattle.kernel_rules.specs.definitions.LegalTick.{no_inputs}
 use Rattle.domain_core.specs.definitions.runs.Systems.{SystemState}
 use Rattle.domain_core.specs.definitions.runs.Scheduled.{IsScheduledRun, IsWholeRun}
 use Rattle.sj_main.specs.declared.commands.Turns.{Turns}
-use Rattle.sj_main.specs.definitions.Grammar.{Program}
-use Rattle.sj_main.specs.definitions.Programs.{tables_of_program, program_setup}
-use Rattle.sj_main.specs.definitions.Accepted.{most_source_bytes, IsSourceOf, IsAccepted}
+use Rattle.sj_accept.specs.declared.refusal.Refusal.{Refusal}
+use Rattle.sj_accept.specs.declared.refusal.Refusal.TheVariants as refusal
+use Rattle.sj_accept.specs.definitions.Programs.{Program, tables_of_program}
+use Rattle.sj_accept.specs.definitions.Accepted.{most_source_bytes, IsSourceOf}
+use Rattle.sj_accept.specs.definitions.Refusals.{IsRefusedFor}
+use Rattle.sj_main.specs.definitions.ProgramSetups.{program_setup}
 use Rattle.sj_main.specs.definitions.Commands.{FitDomains, IsOrder, IsNoCommand}
 use Rattle.sj_main.specs.definitions.RunWeight.{most_run_weight, domain_count_of, turns_of_program, run_weight_of}
 
@@ -19,8 +22,24 @@ usage_line = codes "usage: check FILE | order FILE TURNS INPUTS | run FILE TICKS
 abbrev pub misfit_line : List ℕ
 misfit_line = codes "domains do not fit\n"
 
+-- a line of this text and a number
+abbrev pub numbered_line : List ℕ → ℕ → List ℕ
+numbered_line text n = text ++ decimal n ++ codes "\n"
+
 abbrev pub overweight_line : ℕ → List ℕ
-overweight_line weight = codes "over the run weight " ++ decimal weight ++ codes "\n"
+overweight_line = numbered_line (codes "over the run weight ")
+
+abbrev pub size_line : List ℕ
+size_line = codes "refused Size\n"
+
+-- the kind of a refusal and its place, a byte offset from 0
+abbrev pub refusal_line : Refusal → List ℕ
+refusal_line (refusal.BadByte at) = numbered_line (codes "refused BadByte at ") at
+refusal_line (refusal.BadNumber at) = numbered_line (codes "refused BadNumber at ") at
+refusal_line (refusal.OpenComment at) = numbered_line (codes "refused OpenComment at ") at
+refusal_line (refusal.Syntax at) = numbered_line (codes "refused Syntax at ") at
+refusal_line (refusal.TooDeep at) = numbered_line (codes "refused TooDeep at ") at
+refusal_line refusal.Later = codes "refused Later\n"
 
 -- the turns fit the program's domains, and the run isn't too heavy
 pub record CanRun (p : Program) (turns : Turns) : Type 0 where
@@ -40,10 +59,9 @@ pub record IsTextOfRun (bytes : List ℕ) (turns : Turns) (text : List ℕ) : Ty
   pub is : text ≡ run_text (tables_of_program program) run
 
 -- the first check that fails refuses the bytes with this line
-abbrev pub IsRefusal : List ℕ → List ℕ → Type 0
-IsRefusal bytes text =
-    ((most_source_bytes < length bytes) × (text ≡ codes "refused Size\n"))
-    ⊎ ((length bytes ≤ most_source_bytes) × (IsAccepted bytes → ⊥) × (text ≡ codes "refused Later\n"))
+pub data IsRefusal (bytes text : List ℕ) : Type 0 where
+  ForSize : most_source_bytes < length bytes → text ≡ size_line → IsRefusal bytes text
+  ForReason : (reason : Refusal) → length bytes ≤ most_source_bytes → IsRefusedFor bytes reason → text ≡ refusal_line reason → IsRefusal bytes text
 
 -- a turn is one of no domain of the bytes' program
 pub record IsMisfit (bytes : List ℕ) (turns : Turns) : Type 0 where

@@ -3,7 +3,7 @@ use Rattle.sj_main.specs.Words.{CountedTo}
 use Rattle.sj_main.proofs.commands.is_list.Given as goal
 
 abbrev pub invariant-loop-domain : goal.invariant-loop-domain
-invariant-loop-domain l = CountedTo l.word l.front l.counts
+invariant-loop-domain l = CountedTo l.word l.left l.counts
 
 abbrev pub decreases-loop-domain : goal.decreases-loop-domain
-decreases-loop-domain l = length l.front
+decreases-loop-domain l = length l.left

@@ -18,11 +18,11 @@ returns-in-Ok-Some-clause-weight g c = λ seven.
 pub returns-in-Ok-None-clause-write_fault : goal.returns-in-Ok-None-clause-write_fault
 returns-in-Ok-None-clause-write_fault g c = λ four.
     let n = rw c.in-Ok-None.field-0-is at c.in-Ok-None.ensures.ok in
-    (c.answer.ensures.fault four, usage_begins (word_list c.args.words.now) (g.F.Files.told c.args.files.now) (g.F.Files.faults c.args.files.now) (g.F.Files.faults c.args.files.now) (g.K.Sink.taken c.args.out.now) (g.K.Sink.taken c.answer.new.out) n (c.answer.ensures.front four) (λ other. refl))
+    (c.answer.ensures.fault four, usage_begins (word_list c.args.words.now) (g.F.Files.told c.args.files.now) (g.F.Files.faults c.args.files.now) (g.F.Files.faults c.args.files.now) (g.K.Sink.taken c.args.out.now) (g.K.Sink.taken c.answer.new.out) n (c.answer.ensures.takes_prefix four) (λ other. refl))
 
 pub returns-in-Err-clause-write_fault : goal.returns-in-Err-clause-write_fault
 returns-in-Err-clause-write_fault g c = λ four.
-    (c.answer-in-Err.ensures.fault four, want_begins (word_list c.args.words.now) (g.F.Files.told c.args.files.now) (g.F.Files.faults c.args.files.now) (g.F.Files.faults c.args.files.now) (g.K.Sink.taken c.args.out.now) (g.K.Sink.taken c.answer-in-Err.new.out) c.in-Err.ensures.err (c.answer-in-Err.ensures.front four) (λ other. refl))
+    (c.answer-in-Err.ensures.fault four, want_begins (word_list c.args.words.now) (g.F.Files.told c.args.files.now) (g.F.Files.faults c.args.files.now) (g.F.Files.faults c.args.files.now) (g.K.Sink.taken c.args.out.now) (g.K.Sink.taken c.answer-in-Err.new.out) c.in-Err.ensures.err (c.answer-in-Err.ensures.takes_prefix four) (λ other. refl))
 
 pub returns-in-Err-clause-usage : goal.returns-in-Err-clause-usage
 returns-in-Err-clause-usage g c = λ none. (let x = c.in-Err.ensures.err in absurd (none x.file x.turns x.command))

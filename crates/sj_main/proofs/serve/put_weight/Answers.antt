@@ -1,8 +1,0 @@
-use Rattle.std.proofs.Common.{◌∙◌}
-use Rattle.tick_log.proofs.Texts.{puts_both}
-use Rattle.sj_main.proofs.serve.put_weight.Goals as goal
-
-pub returns : goal.returns
-returns g c =
-    let told = rw (c.as_bytes.ensures.value ∙ c.format.ensures.text) at c.put-told.ensures in
-    puts_both _ _ _ _ _ _ _ _ _ _ _ (puts_both _ _ _ _ _ _ _ _ _ _ _ c.put-begun.ensures told) c.put.ensures
