@@ -13,6 +13,15 @@ processor time of the whole command, with its output to /dev/null, and the least
 - text: one domain with 1,024 signals of long names, all present in each tick. Increments for each byte.
 - loop: one domain with a loop of many statements, each fourth a pause, in many turns. Increments for each
   statement and turn; the statements are what is cut to a quarter.
+
+Five works time reading alone: a source of 1 MiB that is a program of the grammar, and is refused behind that for its
+first port, an input. Increments for each byte; the goal is at most 6.
+
+- statements: one domain with statements of many forms.
+- operators: assignments of expressions with 256 operators, of all levels in turn.
+- parentheses: assignments of names in 62 parentheses.
+- comments: of both forms.
+- ports: outputs, each of a name of its own.
 """
 import os
 import subprocess
@@ -24,6 +33,9 @@ PROGRAM = os.path.join(TOP, "crates", "sj_main", "out", "sj_main")
 RUNS = 5
 MOST_RUN_WEIGHT = 4_000_000
 MOST_WEIGHT = 100_000
+MOST_SOURCE_BYTES = 1_048_576
+MOST_OPERATORS = 256
+MOST_OPEN = 64
 INCREMENTS = 50_000_000
 
 COUNTER = """
@@ -36,15 +48,15 @@ int main(void) {
 """
 
 
-def measured(command):
+def measured(command, wanted=0):
     """Of a command's run that takes the least of processor time: seconds, the system's part, megabytes."""
     best = None
     for _ in range(RUNS):
         with open(os.devnull, "w", encoding="ascii") as nothing:
             child = subprocess.Popen(command, stdout=nothing)
             _, status, used = os.wait4(child.pid, 0)
-        if status:
-            sys.exit(f"{command}: status {os.waitstatus_to_exitcode(status)}")
+        if os.waitstatus_to_exitcode(status) != wanted:
+            sys.exit(f"{command}: status {os.waitstatus_to_exitcode(status)} in place of {wanted}")
         took = used.ru_utime + used.ru_stime
         if best is None or took < best[0]:
             best = (took, used.ru_stime / took, used.ru_maxrss / 1024)
@@ -107,8 +119,58 @@ def loop_work(part):
     return source, f"rr:{turns}", statements * turns
 
 
-WORKS = (("run", "unit of run weight", run_work), ("make", "unit of weight", make_work))
-WORKS += (("text", "byte", text_work), ("loop", "statement and turn", loop_work))
+def unbuilt(part, piece, ports=""):
+    """A source of this part of the greatest size: its first port is an input, and its block has these pieces."""
+    front = "system{interface{input signal I;" + ports + "}{"
+    back = "}}"
+    room = MOST_SOURCE_BYTES // part - len(front) - len(back)
+    source = front + (piece * (room // len(piece))).ljust(room) + back
+    return source, "-", len(source)
+
+
+def statements_work(part):
+    return unbuilt(part, "emit S;pause;x=y+1;send C(7);receive C;present(A&&!B){halt;}else{;}abort(A){await(B);}")
+
+
+def operators_work(part):
+    signs = ("||", "&&", "|", "^", "&", "==", "<", "<<", "+", "*")
+    more = "".join(signs[n % len(signs)] + "a" for n in range(MOST_OPERATORS))
+    return unbuilt(part, f"x=a{more};")
+
+
+def parentheses_work(part):
+    """The braces of the program and of its domain are open too."""
+    count = MOST_OPEN - 2
+    return unbuilt(part, "x=" + "(" * count + "a" + ")" * count + ";")
+
+
+def comments_work(part):
+    return unbuilt(part, "/* * ** / */// to the end of the line\n")
+
+
+def ports_work(part):
+    count = MOST_SOURCE_BYTES // part // len(signal("S000000")) - 3
+    return unbuilt(part, " ", "".join(signal(f"S{n:06d}") for n in range(count)))
+
+
+WORKS = (
+    ("run", "unit of run weight", 0, run_work),
+    ("make", "unit of weight", 0, make_work),
+    ("text", "byte", 0, text_work),
+    ("loop", "statement and turn", 0, loop_work),
+    ("statements", "byte", 1, statements_work),
+    ("operators", "byte", 1, operators_work),
+    ("parentheses", "byte", 1, parentheses_work),
+    ("comments", "byte", 1, comments_work),
+    ("ports", "byte", 1, ports_work),
+)
+
+
+def want_whole(command):
+    """The source is read whole, and refused for no place of it."""
+    text = subprocess.run(command, stdout=subprocess.PIPE, check=False).stdout
+    if text != b"refused Later\n":
+        sys.exit(f"{command}: {text}")
 
 
 def increment(folder):
@@ -128,16 +190,19 @@ def main():
     with tempfile.TemporaryDirectory() as folder:
         plain = increment(folder)
         print(f"a plain atomic increment: {plain * 1e9:.2f} ns")
-        for name, unit, work in WORKS:
+        for name, unit, wanted, work in WORKS:
             for part in (4, 1):
                 source, turns, units = work(part)
                 path = os.path.join(folder, "work.sysj")
                 with open(path, "w", encoding="ascii") as out:
                     out.write(source)
-                took, system_part, held = measured([program, "order", path, turns, "-"])
+                command = [program, "order", path, turns, "-"]
+                if wanted == 1:
+                    want_whole(command)
+                took, system_part, held = measured(command, wanted)
                 each = took / units / plain
                 print(
-                    f"{name}  {took * 1000:7.1f} ms, {system_part:4.0%} system  {held:5.1f} MB  {units:11,d}"
+                    f"{name:11s}  {took * 1000:7.1f} ms, {system_part:4.0%} system  {held:5.1f} MB  {units:11,d}"
                     f"  {each:7.3f} increments for each {unit}"
                 )
 
