@@ -1,11 +1,10 @@
 -- Legal ticks of small domains, and those that no domain makes.
-use Rattle.std.proofs.Common.{◌≡◌, ◌<◌, ℕ, zero, suc, ℤ, pos, Bool, true, false, cond, List, [], ◌∷◌, Option, None, refl, sym, ap, ◌∙◌, arith}
+use Rattle.std.proofs.Common.{◌≡◌, ℕ, zero, suc, ℤ, pos, Bool, true, false, cond, List, [], ◌∷◌, Option, None, refl, sym, ap, ap₂, ◌∙◌, arith}
 use Rattle.std.proofs.lemmas.Bool.Decides.{nat_tests}
 use Rattle.std.specs.Int.{int_wrap}
 use Rattle.kernel_terms.specs.declared.tables.Tables.{Tables}
 use Rattle.kernel_terms.specs.TableEntries.{signal_at, is_interface_of}
 use Rattle.kernel_terms.specs.Marks.{Going, Ended, is_over}
-use Rattle.kernel_terms.specs.Limits.{most_traps}
 use Rattle.kernel_terms.specs.Statements.{Stmt, Nothing, Exit}
 use Rattle.kernel_rules.specs.definitions.Signals.{Env, Status, is_emitted, shown}
 use Rattle.kernel_rules.specs.definitions.TickRule.{Tick, exit_code, Chosen, ends_with}
@@ -15,6 +14,8 @@ use Rattle.kernel_rules.specs.definitions.LegalTick.{no_inputs}
 use Rattle.kernel_rules.specs.ShownTicks.{OnlyLogs, absent, absent_with, present, present_with, statuses, emitted}
 use Rattle.kernel_rules.specs.Worked.Domains
 use Rattle.kernel_rules.specs.Worked.Words.{emit}
+use Rattle.kernel_rules.specs.Worked.Variables.{sum_of}
+use Rattle.kernel_rules.specs.definitions.Expressions.{value_of}
 use Rattle.kernel_rules.proofs.RowLemmas.{Given, plain, logs}
 use Rattle.kernel_rules.proofs.OneLogLemmas.{tried_in, last_state, only_logs}
 
@@ -98,8 +99,8 @@ exit_is_no_end e h = grind (arith, nat_tests)
 
 pub exit_refused :
     (tables : Tables) (inputs : Inputs) (d e : ℕ) (row : List (Option ℤ)) (new : DomainState)
-    → e < most_traps → IsLegalTick tables inputs d (at_start (Exit e)) row new → ⊥
-exit_refused tables inputs d e row new below h =
+    → IsLegalTick tables inputs d (at_start (Exit e)) row new → ⊥
+exit_refused tables inputs d e row new h =
     let a : Tick = h.tick in exit_is_no_end e (sym (ap (λ (z : Tick). is_tick_code z.code) h.ticks) ∙ h.code)
 
 pub counts :
@@ -152,3 +153,48 @@ other_row row new h =
     let m : a ≡ ends_with (emitted 1 0 ∷ []) (λ n. pos 0) = k.2 ∙ ap (λ v. ends_with (record { signal = 1; value = v } ∷ []) (λ n. pos 0)) k.1 in
     let e : h.env 1 ≡ present = h.coherent 1 refl ∙ ap (λ (z : Tick). status_in Domains.shared_tables (λ s. None) (λ s. pos 0) z.emits 1) m in
     h.shows ∙ ap (λ (z : Status). shown z ∷ []) e
+
+-- the environment of the domain's next tick
+abbrev state_env : Env
+state_env = statuses (absent_with 80 ∷ present_with 987 ∷ [])
+
+state_status : (s : ℕ) → is_interface_of 0 (signal_at Domains.input_tables s) ≡ true → state_env s ≡ status_in Domains.input_tables (λ k. None) (λ k. pos 80) (emitted 1 987 ∷ []) s
+state_status zero h = refl
+state_status (suc zero) h = refl
+state_status (suc (suc s)) h = absurd cc
+
+pub state_tick : (new : DomainState) × IsLegalTick Domains.input_tables no_inputs 0 Domains.shows_state (off ∷ with 987 ∷ []) new
+unfolding int_wrap
+state_tick =
+    let old = Domains.shows_state in
+    let o = ends_with (emitted 1 987 ∷ []) old.variables in (
+      record { statement = o.rest; variables = o.variables; values = values_after Domains.input_tables 0 state_env old.values; last = old.last; ticks = 5; mark = Ended },
+      record {
+        goes_on = refl;
+        env = state_env;
+        tick = o;
+        ticks = (pos 987, refl, refl);
+        coherent = state_status;
+        code = refl;
+        shows = refl;
+        next = refl;
+      },
+    )
+
+-- what is emitted, by the status of the input
+abbrev sum_with : Status → ℤ
+sum_with z = value_of (record { variables = λ x. pos 7; env = λ s. z; last = λ c. pos 900 }) (sum_of 0 0 0)
+
+sum_is : sum_with (absent_with 80) ≡ pos 987
+unfolding int_wrap
+sum_is = refl
+
+pub state_row : (row : List (Option ℤ)) (new : DomainState) → IsLegalTick Domains.input_tables no_inputs 0 Domains.shows_state row new → row ≡ off ∷ with 987 ∷ []
+state_row row new h =
+    let a : Tick = h.tick in
+    let k = h.ticks in
+    let input : h.env 0 ≡ absent_with 80 = h.coherent 0 refl in
+    let v : k.0 ≡ pos 987 = k.1 ∙ ap sum_with input ∙ sum_is in
+    let m : a ≡ ends_with (emitted 1 987 ∷ []) (λ n. pos 7) = k.2 ∙ ap (λ w. ends_with (record { signal = 1; value = w } ∷ []) (λ n. pos 7)) v in
+    let output : h.env 1 ≡ present_with 987 = h.coherent 1 refl ∙ ap (λ (z : Tick). status_in Domains.input_tables (λ s. None) (λ s. pos 80) z.emits 1) m in
+    h.shows ∙ ap₂ (λ (y : Status) (z : Status). shown y ∷ shown z ∷ []) input output

@@ -32,9 +32,12 @@ later_exit = Seq (Trap (Seq Pause (Seq (Exit 0) (emit 0)))) (emit 1)
 abbrev pub exit_from_loop : ℕ → Stmt
 exit_from_loop d = Loop (Seq (emit 0) (Exit d))
 
--- the body of an armed weak abort, and of a suspend that isn't armed
+-- the body of an armed weak abort, of an armed strong one, and of a suspend that isn't armed
 abbrev pub in_weak_abort : Stmt → Stmt
 in_weak_abort p = Abort true true (IsPresent 2) p
+
+abbrev pub in_strong_abort : Stmt → Stmt
+in_strong_abort p = Abort false true (IsPresent 2) p
 
 abbrev pub in_suspend : Stmt → Stmt
 in_suspend p = Suspend false (IsPresent 2) p

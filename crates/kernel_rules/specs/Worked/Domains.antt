@@ -8,9 +8,11 @@ use Rattle.kernel_terms.specs.declared.tables.Sort.TheVariants as sort
 use Rattle.kernel_terms.specs.declared.tables.Combine.TheVariants as combine
 use Rattle.kernel_terms.specs.Expressions.{Expression, Literal, Variable, Unary, IsPresent}
 use Rattle.kernel_terms.specs.Statements.{Stmt, Nothing, Pause, Assign, If, Present, Seq, Loop, Par}
-use Rattle.kernel_rules.specs.definitions.LegalTick.{Inputs}
+use Rattle.kernel_terms.specs.Marks.{Going}
+use Rattle.kernel_rules.specs.definitions.LegalTick.{DomainState, Inputs}
 use Rattle.kernel_rules.specs.Rows.{int, pure, summed, signals_alone}
 use Rattle.kernel_rules.specs.Worked.Words.{emit, emit_value, assign, plus, variable, signal_value}
+use Rattle.kernel_rules.specs.Worked.Variables.{sum_of}
 
 -- output int S
 abbrev pub one_sum : Tables
@@ -81,3 +83,14 @@ relies_on_itself = Present (IsPresent 0) (emit 0) Nothing
 -- present(A){}else{emit A;}
 abbrev pub contradicts_itself : Stmt
 contradicts_itself = Present (IsPresent 0) Nothing (emit 0)
+
+-- emit B(x + #I + #C); after four ticks, where x is 7 and the last values are 80 and 900
+abbrev pub shows_state : DomainState
+shows_state = record {
+  statement = emit_value 1 (sum_of 0 0 0);
+  variables = λ x. pos 7;
+  values = λ s. pos 80;
+  last = λ c. pos 900;
+  ticks = 4;
+  mark = Going;
+}

@@ -6,7 +6,7 @@ use Rattle.kernel_terms.specs.declared.tables.Tables.{Tables}
 use Rattle.kernel_terms.specs.declared.tables.Sort.TheVariants as sort
 use Rattle.kernel_terms.specs.declared.tables.Combine.TheVariants as combine
 use Rattle.kernel_terms.specs.Expressions.{IsPresent}
-use Rattle.kernel_terms.specs.Statements.{Stmt, Pause, Assign, Present, Seq, Par, Exit, Suspend, Local}
+use Rattle.kernel_terms.specs.Statements.{Stmt, Nothing, Pause, Assign, Present, Seq, Par, Exit, Suspend, Local}
 use Rattle.kernel_rules.specs.definitions.Signals.{Emission}
 use Rattle.kernel_rules.specs.ShownTicks.{Shown, statuses, absent, present, pauses_in}
 use Rattle.kernel_rules.specs.Rows.{int, pure_input, pure_local, summed, summed_local, signals_alone}
@@ -96,3 +96,11 @@ assigned_inside = Seq (Local 5 (pos 0) (assign 0 1)) (emit_value 1 (variable 0))
 abbrev pub assigned_twice_inside : Stmt
 assigned_twice_inside =
     Seq (Local 5 (pos 0) (Seq (assign 0 1) (Seq Pause (Assign 0 (plus (variable 0) (int 1)))))) (emit_value 1 (variable 0))
+
+-- signal P; present(P){emit P; emit A;}
+abbrev pub relies_on_itself : Stmt
+relies_on_itself = Local 5 (pos 0) (Present (IsPresent 5) (Seq (emit 5) (emit 0)) Nothing)
+
+-- signal P; present(P){}else{emit P;}
+abbrev pub contradicts_itself : Stmt
+contradicts_itself = Local 5 (pos 0) (Present (IsPresent 5) Nothing (emit 5))

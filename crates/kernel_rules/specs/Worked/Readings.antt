@@ -1,13 +1,15 @@
 -- What expressions, tests and statements read: a variable, a signal and a channel that have values, and all
 -- others 0.
-use Rattle.std.specs.Prelude.{ℕ, ℤ, pos, List, [], ◌∷◌, Some, codes}
+use Rattle.std.specs.Prelude.{ℕ, ℤ, pos, negsuc, List, [], ◌∷◌, Some, map, codes}
 use Rattle.java_values.specs.declared.kind.Kind.{Kind}
 use Rattle.java_values.specs.declared.kind.Kind.TheVariants as kind
+use Rattle.java_values.specs.declared.op.Op1.TheVariants as op1
+use Rattle.java_values.specs.declared.op.Op2.{Op2}
 use Rattle.java_values.specs.declared.op.Op2.TheVariants as op
 use Rattle.kernel_terms.specs.declared.tables.SignalInfo.{SignalInfo}
 use Rattle.kernel_terms.specs.declared.tables.Sort.TheVariants as sort
 use Rattle.kernel_terms.specs.declared.tables.Combine.{Combine}
-use Rattle.kernel_terms.specs.Expressions.{Expression, Literal, ChannelValue, Binary}
+use Rattle.kernel_terms.specs.Expressions.{Expression, Literal, Variable, SignalValue, ChannelValue, Unary, Binary, Cast}
 use Rattle.kernel_terms.specs.Statements.{Stmt, Assign, If, Seq}
 use Rattle.kernel_rules.specs.definitions.Signals.{Emission, Env, put_at}
 use Rattle.kernel_rules.specs.definitions.Expressions.{Readings}
@@ -55,3 +57,37 @@ signal_of k c = record { name = codes "S"; domain = 0; sort = sort.Output; kind 
 -- emissions of three signals
 abbrev pub some_emissions : List Emission
 some_emissions = emitted 0 5 ∷ emitted 1 6 ∷ emitted 0 4 ∷ emitted 2 3 ∷ []
+
+-- each form of expression with a kind for its own, on the variable, the signal and the channel that have values
+abbrev pub forms_of : Kind → List Expression
+forms_of k =
+    literal k 1 ∷ Variable k 1 ∷ SignalValue k 3 ∷ ChannelValue k 2 ∷ Unary k op1.Minus (Literal k (negsuc 0)) ∷ Binary k op.Add (literal k 1) (int 1)
+    ∷ Binary k op.Add (int 1) (literal k 1) ∷ Cast k (literal kind.Byte 1) ∷ []
+
+-- the greatest `int` added to each of them
+abbrev pub greatest_added : Kind → List Expression
+greatest_added k = map (λ e. Binary k op.Add e (int 2147483647)) (forms_of k)
+
+-- operators on two numbers of kind `int`
+abbrev pub on_ints : Kind → List Op2 → ℤ → ℤ → List Expression
+on_ints k ops m n = map (λ o. Binary k o (Literal kind.Int m) (Literal kind.Int n)) ops
+
+-- on two truth values
+abbrev pub on_booleans : List Op2 → ℕ → ℕ → List Expression
+on_booleans ops m n = map (λ o. Binary kind.Boolean o (literal kind.Boolean m) (literal kind.Boolean n)) ops
+
+abbrev pub arithmetic : List Op2
+arithmetic = op.Mul ∷ op.Div ∷ op.Rem ∷ op.Add ∷ op.Sub ∷ op.Shl ∷ op.Shr ∷ op.Ushr ∷ []
+
+abbrev pub comparisons : List Op2
+comparisons = op.Less ∷ op.LessEq ∷ op.Greater ∷ op.GreaterEq ∷ op.Equal ∷ op.NotEqual ∷ []
+
+abbrev pub bitwise : List Op2
+bitwise = op.And ∷ op.Xor ∷ op.Or ∷ []
+
+abbrev pub logical : List Op2
+logical = op.Both ∷ op.Either ∷ []
+
+-- a number that fits `long` alone, cast to each kind
+abbrev pub casts : List Expression
+casts = map (λ k. Cast k (literal kind.Long 8589974992)) (kind.Byte ∷ kind.Short ∷ kind.Char ∷ kind.Int ∷ kind.Long ∷ [])

@@ -10,6 +10,7 @@ use Rattle.kernel_terms.specs.Expressions.{Literal, Variable, IsPresent}
 use Rattle.kernel_terms.specs.Statements.{Stmt, Nothing, Pause, If, Present, Seq, Loop, Par, Trap, Abort, Suspend, Local, Send, Receive}
 use Rattle.kernel_rules.specs.Rows.{pure_input, pure_local, summed}
 use Rattle.kernel_rules.specs.Worked.Words.{variable, emit_value}
+use Rattle.kernel_rules.specs.Worked.Variables.{truth}
 
 -- a signal of a domain, with `+`
 abbrev pub of_domain : ℕ → Kind → List ℕ → SignalInfo
@@ -114,3 +115,15 @@ both_on = held (1 ∷ 1 ∷ [])
 
 abbrev pub first_on : ℕ → ℤ
 first_on = held (1 ∷ 0 ∷ [])
+
+-- the forms that have two parts, with these
+abbrev pub two_parts : Stmt → Stmt → List Stmt
+two_parts p q = If (truth true) p q ∷ Present (IsPresent 0) p q ∷ Seq p q ∷ Par p q ∷ []
+
+-- send C(x);
+abbrev pub sends : Stmt
+sends = Send 0 (variable 0)
+
+-- a local signal with a register, around two pauses
+abbrev pub local_pauses : Stmt
+local_pauses = Local 4 (pos 0) (Seq Pause Pause)

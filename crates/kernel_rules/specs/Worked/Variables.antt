@@ -2,7 +2,7 @@
 use Rattle.std.specs.Prelude.{ℕ, pos, Bool, true, false, cond, List, [], ◌∷◌, Some, None}
 use Rattle.java_values.specs.declared.kind.Kind.TheVariants as kind
 use Rattle.java_values.specs.declared.op.Op1.TheVariants as op1
-use Rattle.kernel_terms.specs.Expressions.{Expression, Literal, ChannelValue, Unary, Cast, IsPresent, Not, Both, Either}
+use Rattle.kernel_terms.specs.Expressions.{Expression, Literal, ChannelValue, Unary, Cast, Test, IsPresent, Not, Both, Either}
 use Rattle.kernel_terms.specs.Statements.{Stmt, Nothing, Pause, Emit, Assign, If, Present, Seq, Loop, Par, Trap, Exit, Abort, Suspend, Local, Send, Receive, SendWaits, Sent, ReceiveWaits, Received}
 use Rattle.kernel_rules.specs.Rows.{int}
 use Rattle.kernel_rules.specs.Worked.Words.{variable, signal_value, plus, emit, emit_value, assign}
@@ -91,3 +91,38 @@ tested =
 -- sends and receives on the channels 0 to 3 that wait or have completed
 abbrev pub waits : Stmt
 waits = Seq (SendWaits 0 (pos 5)) (Seq (Sent 1) (Seq (ReceiveWaits 2) (Seq (Received 3) (Receive 3))))
+
+-- trap(T){ {x = 1; exit(T);} || {y = 2; pause;} } emit A(x); emit B(y);
+abbrev pub exits_and_assigns : Stmt
+exits_and_assigns =
+    Seq (Trap (Par (Seq (assign 0 1) (Exit 0)) (Seq (assign 1 2) Pause))) (Seq (emit_value 0 (variable 0)) (emit_value 1 (variable 1)))
+
+-- an expression, and the forms that have it as one of their operands
+abbrev pub expressions_around : Expression → List Expression
+expressions_around e = e ∷ Unary kind.Int op1.Minus e ∷ plus e (int 4) ∷ plus (int 4) e ∷ Cast kind.Int e ∷ []
+
+-- each form that has an expression, with this one
+abbrev pub forms_with : Expression → List Stmt
+forms_with e = emit_value 1 e ∷ Assign 1 e ∷ If e Nothing Nothing ∷ Send 1 e ∷ []
+
+-- each form that has a test, with this one
+abbrev pub forms_testing : Test → List Stmt
+forms_testing t = Present t Nothing Nothing ∷ Abort false false t Nothing ∷ Abort true true t Nothing ∷ Suspend false t Nothing ∷ []
+
+-- each form of test, of the signal 3
+abbrev pub tests_of_three : List Test
+tests_of_three =
+    IsPresent 3 ∷ Not (IsPresent 3) ∷ Both (IsPresent 3) (IsPresent 4) ∷ Both (IsPresent 4) (IsPresent 3) ∷ Either (IsPresent 3) (IsPresent 4)
+    ∷ Either (IsPresent 4) (IsPresent 3) ∷ []
+
+-- each form that names a channel outside of an expression, with the channel 3
+abbrev pub forms_on_channel : List Stmt
+forms_on_channel = Send 3 (int 4) ∷ Receive 3 ∷ SendWaits 3 (pos 4) ∷ Sent 3 ∷ ReceiveWaits 3 ∷ Received 3 ∷ []
+
+-- each form that names a signal outside of an expression and of a test, with the signal 3
+abbrev pub forms_on_signal : List Stmt
+forms_on_signal = emit 3 ∷ emit_value 3 (int 4) ∷ Local 3 (pos 4) Nothing ∷ []
+
+-- each form without parts that names nothing
+abbrev pub nameless_forms : List Stmt
+nameless_forms = Nothing ∷ Pause ∷ Exit 3 ∷ []

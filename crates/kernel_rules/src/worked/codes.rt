@@ -1,13 +1,15 @@
 //! Ticks that end, pause and exit.
 
 ghost use Rattle.std.specs.Prelude.{[], ◌∷◌};
-ghost use Rattle.kernel_terms.specs.Statements.{Pause, Seq, Par, Trap, Exit};
-ghost use Rattle.kernel_rules.specs.ShownTicks.{Shows, pauses, ends, exits, exits_in};
+ghost use Rattle.kernel_terms.specs.Statements.{Pause, Seq, Loop, Par, Trap, Exit};
+ghost use Rattle.kernel_rules.specs.ShownTicks.{Shows, pauses, ends, ends_in, exits, exits_in};
 ghost use Rattle.kernel_rules.specs.ShownTicks.{emitted, statuses, absent, present};
 ghost use Rattle.kernel_rules.specs.Worked.Words.{no_tables, emit};
 ghost use Rattle.kernel_rules.specs.Worked.Codes.{later, nested_exit, two_exits};
 ghost use Rattle.kernel_rules.specs.Worked.Codes.{exit_beside_pause, pause_beside_exit, later_exit};
-ghost use Rattle.kernel_rules.specs.Worked.Codes.{exit_from_loop, in_weak_abort, in_suspend};
+ghost use Rattle.kernel_rules.specs.Worked.Codes.{exit_from_loop, in_weak_abort, in_strong_abort};
+ghost use Rattle.kernel_rules.specs.Worked.Codes.{in_suspend};
+ghost use Rattle.kernel_rules.specs.Worked.Ways.{exit_later};
 
 /// A parallel pauses while one of its branches does, and ends when the last one ends. A branch that has
 /// ended does nothing more.
@@ -53,8 +55,8 @@ pub fn outer_exit_is_lowered()
     ensures last { Shows no_tables (Trap (Exit 63)) (exits 62 [] ∷ []) }
 {}
 
-/// An exit passes through a sequence, of which the second part doesn't begin, a loop, a suspend and a
-/// weak abort as it is, and leaves nothing.
+/// An exit passes through a sequence, of which the second part doesn't begin, a loop, a suspend and an
+/// abort as it is, and leaves nothing.
 pub fn exit_passes_through()
     ensures sequence { Shows no_tables (Seq (Exit 2) (emit 0)) (exits 2 [] ∷ ends [] ∷ []) }
     ensures of_second { Shows no_tables (Seq (emit 0) (Exit 2)) (exits 2 (emitted 0 0 ∷ []) ∷ ends [] ∷ []) }
@@ -63,6 +65,22 @@ pub fn exit_passes_through()
     ensures weak { Shows no_tables (in_weak_abort (Exit 1)) (exits 1 [] ∷ ends [] ∷ []) }
     ensures aborted { Shows no_tables (in_weak_abort (Exit 0))
         (exits_in (statuses (absent ∷ absent ∷ present ∷ [])) 0 [] ∷ ends [] ∷ []) }
+    ensures strong { Shows no_tables (in_strong_abort (Exit 1)) (exits 1 [] ∷ ends [] ∷ []) }
+{}
+
+/// An exit in a later tick passes in the same way, and through a trap it counts one depth less.
+pub fn later_exit_passes_through()
+    ensures sequence { Shows no_tables (Seq (exit_later 2) (emit 0)) (pauses [] ∷ exits 2 [] ∷ ends [] ∷ []) }
+    ensures loop_ { Shows no_tables (Loop (exit_later 1)) (pauses [] ∷ exits 1 [] ∷ ends [] ∷ []) }
+    ensures parallel { Shows no_tables (Par (exit_later 1) (Seq Pause Pause)) (pauses [] ∷ exits 1 [] ∷ ends [] ∷ []) }
+    ensures trap { Shows no_tables (Trap (exit_later 1)) (pauses [] ∷ exits 0 [] ∷ ends [] ∷ []) }
+    ensures suspend { Shows no_tables (in_suspend (exit_later 1)) (pauses [] ∷ exits 1 [] ∷ ends [] ∷ []) }
+    ensures weak { Shows no_tables (in_weak_abort (exit_later 1)) (pauses [] ∷ exits 1 [] ∷ ends [] ∷ []) }
+    ensures strong { Shows no_tables (in_strong_abort (exit_later 1)) (pauses [] ∷ exits 1 [] ∷ ends [] ∷ []) }
+    ensures weak_aborted { Shows no_tables (in_weak_abort (exit_later 1))
+        (pauses [] ∷ exits_in (statuses (absent ∷ absent ∷ present ∷ [])) 1 [] ∷ ends [] ∷ []) }
+    ensures strong_aborted { Shows no_tables (in_strong_abort (exit_later 1))
+        (pauses [] ∷ ends_in (statuses (absent ∷ absent ∷ present ∷ [])) [] ∷ ends [] ∷ []) }
 {}
 
 /// A code above those of the deepest exits stays as it is under a trap, in a weak abort and beside each

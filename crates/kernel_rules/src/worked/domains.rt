@@ -1,10 +1,9 @@
 //! Legal ticks of small domains.
 
-ghost use Rattle.std.specs.Prelude.{◌≡◌, ◌<◌, ℕ, suc, ℤ, List, [], ◌∷◌, Option, false};
+ghost use Rattle.std.specs.Prelude.{◌≡◌, ℕ, suc, ℤ, List, [], ◌∷◌, Option, false};
 ghost use Rattle.kernel_terms.specs.declared.tables.Tables.{Tables};
 ghost use Rattle.kernel_terms.specs.TableEntries.{signal_at, is_interface_of};
 ghost use Rattle.kernel_terms.specs.Marks.{Going, Ended};
-ghost use Rattle.kernel_terms.specs.Limits.{most_traps};
 ghost use Rattle.kernel_terms.specs.Statements.{Nothing, Exit};
 ghost use Rattle.kernel_rules.specs.definitions.LegalTick.{DomainState, Inputs, IsLegalTick};
 ghost use Rattle.kernel_rules.specs.Rows.{Logs, at_start, on, off, with};
@@ -12,7 +11,7 @@ ghost use Rattle.kernel_rules.specs.definitions.LegalTick.{no_inputs};
 ghost use Rattle.kernel_rules.specs.ShownTicks.{OnlyLogs};
 ghost use Rattle.kernel_rules.specs.Worked.Words.{emit};
 ghost use Rattle.kernel_rules.specs.Worked.Domains.{one_sum, reads_absent, alternates, turns_again};
-ghost use Rattle.kernel_rules.specs.Worked.Domains.{input_tables, seven_at_two};
+ghost use Rattle.kernel_rules.specs.Worked.Domains.{input_tables, seven_at_two, shows_state};
 ghost use Rattle.kernel_rules.specs.Worked.Domains.{shows_input, shows_input_again, emits_again};
 ghost use Rattle.kernel_rules.specs.Worked.Domains.{shared_tables, one_then_other, answers};
 ghost use Rattle.kernel_rules.specs.Worked.Domains.{relies_on_itself, contradicts_itself};
@@ -64,13 +63,13 @@ pub fn coherence_decides()
         → IsLegalTick one_sum no_inputs 0 (at_start contradicts_itself) row new → ⊥ }
 {}
 
-/// A domain that has ended makes no tick, and no legal tick exits.
+/// A domain that has ended makes no tick, and no legal tick exits or has a code above those of all exits.
 pub fn some_domains_make_no_tick()
     ensures ended { (tables : Tables) (inputs : Inputs) (d : ℕ) (old : DomainState)
         (row : List (Option ℤ)) (new : DomainState) → old.mark ≡ Ended
         → IsLegalTick tables inputs d old row new → ⊥ }
     ensures exits { (tables : Tables) (inputs : Inputs) (d e : ℕ) (row : List (Option ℤ))
-        (new : DomainState) → e < most_traps
+        (new : DomainState)
         → IsLegalTick tables inputs d (at_start (Exit e)) row new → ⊥ }
 {}
 
@@ -86,4 +85,12 @@ pub fn legal_tick_counts()
     ensures values { (tables : Tables) (inputs : Inputs) (d : ℕ) (old : DomainState)
         (row : List (Option ℤ)) (new : DomainState) (s : ℕ) → IsLegalTick tables inputs d old row new
         → is_interface_of d (signal_at tables s) ≡ false → new.values s ≡ old.values s }
+{}
+
+/// A legal tick reads the variables of the domain, its signals' last values and its channels'.
+pub fn legal_tick_reads_state()
+    ensures tick { (new : DomainState)
+        × IsLegalTick input_tables no_inputs 0 shows_state (off ∷ with 987 ∷ []) new }
+    ensures alone { (row : List (Option ℤ)) (new : DomainState)
+        → IsLegalTick input_tables no_inputs 0 shows_state row new → row ≡ off ∷ with 987 ∷ [] }
 {}

@@ -1,6 +1,6 @@
 //! Ticks of statements with local signals.
 
-ghost use Rattle.std.specs.Prelude.{[], ◌∷◌};
+ghost use Rattle.std.specs.Prelude.{ℕ, ℤ, [], ◌∷◌};
 ghost use Rattle.kernel_rules.specs.ShownTicks.{Shows, pauses, ends, exits, emitted};
 ghost use Rattle.kernel_rules.specs.Worked.Locals.{local_tables, pauses_with_input};
 ghost use Rattle.kernel_rules.specs.Worked.Locals.{emitted_beside, asked_beside, emitted_later};
@@ -8,6 +8,9 @@ ghost use Rattle.kernel_rules.specs.Worked.Locals.{emitted_inside, another_asked
 ghost use Rattle.kernel_rules.specs.Worked.Locals.{kept, emitted_again, exits_around};
 ghost use Rattle.kernel_rules.specs.Worked.Locals.{suspended_inside, suspended_around};
 ghost use Rattle.kernel_rules.specs.Worked.Locals.{assigned_inside, assigned_twice_inside};
+ghost use Rattle.kernel_rules.specs.Worked.Locals.{relies_on_itself, contradicts_itself};
+ghost use Rattle.kernel_rules.specs.definitions.Signals.{Env};
+ghost use Rattle.kernel_rules.specs.definitions.TickRule.{Tick, Ticks, ends_with};
 
 /// A local signal is present in the whole tick in which it is emitted, wherever in its body that is, and
 /// in no other tick.
@@ -58,4 +61,15 @@ pub fn local_hands_on_variables()
     ensures at_once { Shows local_tables assigned_inside (ends (emitted 1 1 ∷ []) ∷ []) }
     ensures later { Shows local_tables assigned_twice_inside
         (pauses [] ∷ ends (emitted 1 2 ∷ []) ∷ ends [] ∷ []) }
+{}
+
+/// A local signal has each status that its body gives it: what emits it only where it is present makes two
+/// ticks, and what emits it only where it is absent makes none.
+pub fn local_coherence_decides()
+    ensures absent { (last : ℕ → ℤ) (env : Env) (x : ℕ → ℤ)
+        → Ticks local_tables last relies_on_itself env x (ends_with [] x) }
+    ensures present { (last : ℕ → ℤ) (env : Env) (x : ℕ → ℤ)
+        → Ticks local_tables last relies_on_itself env x (ends_with (emitted 0 0 ∷ []) x) }
+    ensures none { (last : ℕ → ℤ) (env : Env) (x : ℕ → ℤ) (o : Tick)
+        → Ticks local_tables last contradicts_itself env x o → ⊥ }
 {}

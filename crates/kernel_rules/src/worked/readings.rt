@@ -1,6 +1,6 @@
 //! What expressions, tests and statements read, and the values of signals.
 
-ghost use Rattle.std.specs.Prelude.{◌≡◌, pos, negsuc, true, false, [], ◌∷◌, Some, None};
+ghost use Rattle.std.specs.Prelude.{◌≡◌, pos, negsuc, true, false, [], ◌∷◌, ◌++◌, Some, None, map};
 ghost use Rattle.java_values.specs.declared.kind.Kind.TheVariants as kind;
 ghost use Rattle.java_values.specs.declared.op.Op1.TheVariants as op1;
 ghost use Rattle.java_values.specs.declared.op.Op2.TheVariants as op2;
@@ -17,7 +17,9 @@ ghost use Rattle.kernel_rules.specs.Worked.Words.{no_tables, variable, signal_va
 ghost use Rattle.kernel_rules.specs.Worked.Readings.{readings, one_variable, two_signals, one_channel};
 ghost use Rattle.kernel_rules.specs.Worked.Readings.{channel_value, sum_of_all, literal};
 ghost use Rattle.kernel_rules.specs.Worked.Readings.{asks_for_sum, assigns_sum, signal_of};
-ghost use Rattle.kernel_rules.specs.Worked.Readings.{some_emissions};
+ghost use Rattle.kernel_rules.specs.Worked.Readings.{some_emissions, greatest_added};
+ghost use Rattle.kernel_rules.specs.Worked.Readings.{on_ints, on_booleans, arithmetic, comparisons};
+ghost use Rattle.kernel_rules.specs.Worked.Readings.{bitwise, logical, casts};
 
 /// Each form of expression has its value: of a variable, of a signal, present or not, of a channel, and
 /// of the operands in their order.
@@ -49,6 +51,47 @@ pub fn operands_have_kinds()
         (Unary kind.Int op1.Minus (Literal kind.Int (negsuc 2147483647))) ≡ negsuc 2147483647 }
     ensures minus_long { value_of readings
         (Unary kind.Long op1.Minus (Literal kind.Long (negsuc 2147483647))) ≡ pos 2147483648 }
+    ensures shifted_int { value_of readings
+        (Binary kind.Int op2.Shl (literal kind.Int 1) (literal kind.Long 33)) ≡ pos 2 }
+    ensures shifted_long { value_of readings
+        (Binary kind.Long op2.Shl (literal kind.Long 1) (literal kind.Int 33)) ≡ pos 8589934592 }
+    ensures forms_of_int { map (λ e. value_of readings e) (greatest_added kind.Int)
+        ≡ negsuc 2147483647 ∷ negsuc 2147483641 ∷ negsuc 2147483568 ∷ negsuc 2147482748
+        ∷ negsuc 2147483647 ∷ negsuc 2147483646 ∷ negsuc 2147483646 ∷ negsuc 2147483647 ∷ [] }
+    ensures forms_of_long { map (λ e. value_of readings e) (greatest_added kind.Long)
+        ≡ pos 2147483648 ∷ pos 2147483654 ∷ pos 2147483727 ∷ pos 2147484547
+        ∷ pos 2147483648 ∷ pos 2147483649 ∷ pos 2147483649 ∷ pos 2147483648 ∷ [] }
+{}
+
+/// Each operator and each cast has its value.
+pub fn operators_have_their_values()
+    ensures numbers { map (λ e. value_of readings e) (on_ints kind.Int arithmetic (negsuc 6) (pos 2))
+        ≡ negsuc 13 ∷ negsuc 2 ∷ negsuc 0 ∷ negsuc 4 ∷ negsuc 8 ∷ negsuc 27 ∷ negsuc 1
+        ∷ pos 1073741822 ∷ [] }
+    ensures less { map (λ e. value_of readings e) (on_ints kind.Boolean comparisons (negsuc 6) (pos 2))
+        ≡ pos 1 ∷ pos 1 ∷ pos 0 ∷ pos 0 ∷ pos 0 ∷ pos 1 ∷ [] }
+    ensures equal { map (λ e. value_of readings e) (on_ints kind.Boolean comparisons (pos 2) (pos 2))
+        ≡ pos 0 ∷ pos 1 ∷ pos 0 ∷ pos 1 ∷ pos 1 ∷ pos 0 ∷ [] }
+    ensures greater { map (λ e. value_of readings e) (on_ints kind.Boolean comparisons (pos 2) (negsuc 6))
+        ≡ pos 0 ∷ pos 0 ∷ pos 1 ∷ pos 1 ∷ pos 0 ∷ pos 1 ∷ [] }
+    ensures bits { map (λ e. value_of readings e) (on_ints kind.Int bitwise (pos 12) (pos 10))
+        ≡ pos 8 ∷ pos 6 ∷ pos 14 ∷ [] }
+    ensures bits_of_minus_one { map (λ e. value_of readings e) (on_ints kind.Int bitwise (negsuc 0) (pos 10))
+        ≡ pos 10 ∷ negsuc 10 ∷ negsuc 0 ∷ [] }
+    ensures neither { map (λ e. value_of readings e) (on_booleans (bitwise ++ logical) 0 0)
+        ≡ pos 0 ∷ pos 0 ∷ pos 0 ∷ pos 0 ∷ pos 0 ∷ [] }
+    ensures first { map (λ e. value_of readings e) (on_booleans (bitwise ++ logical) 1 0)
+        ≡ pos 0 ∷ pos 1 ∷ pos 1 ∷ pos 0 ∷ pos 1 ∷ [] }
+    ensures second { map (λ e. value_of readings e) (on_booleans (bitwise ++ logical) 0 1)
+        ≡ pos 0 ∷ pos 1 ∷ pos 1 ∷ pos 0 ∷ pos 1 ∷ [] }
+    ensures both { map (λ e. value_of readings e) (on_booleans (bitwise ++ logical) 1 1)
+        ≡ pos 1 ∷ pos 0 ∷ pos 1 ∷ pos 1 ∷ pos 1 ∷ [] }
+    ensures one_operand { map (λ o. value_of readings (Unary kind.Int o (variable 1)))
+        (op1.Plus ∷ op1.Minus ∷ op1.BitNot ∷ []) ≡ pos 7 ∷ negsuc 6 ∷ negsuc 7 ∷ [] }
+    ensures inverse { map (λ n. value_of readings (Unary kind.Boolean op1.Not (literal kind.Boolean n)))
+        (0 ∷ 1 ∷ []) ≡ pos 1 ∷ pos 0 ∷ [] }
+    ensures casts { map (λ e. value_of readings e) casts
+        ≡ negsuc 47 ∷ negsuc 25135 ∷ pos 40400 ∷ pos 40400 ∷ pos 8589974992 ∷ [] }
 {}
 
 /// A test looks at presence, and not at values, and combines what its parts say.
@@ -60,8 +103,10 @@ pub fn tests_look_at_presence()
     ensures both { holds two_signals (Both (IsPresent 0) (IsPresent 0)) ≡ true }
     ensures first_alone { holds two_signals (Both (IsPresent 0) (IsPresent 3)) ≡ false }
     ensures second_alone { holds two_signals (Both (IsPresent 3) (IsPresent 0)) ≡ false }
+    ensures both_absent { holds two_signals (Both (IsPresent 3) (IsPresent 3)) ≡ false }
     ensures either_first { holds two_signals (Either (IsPresent 0) (IsPresent 3)) ≡ true }
     ensures either_second { holds two_signals (Either (IsPresent 3) (IsPresent 0)) ≡ true }
+    ensures either_both { holds two_signals (Either (IsPresent 0) (IsPresent 0)) ≡ true }
     ensures neither { holds two_signals (Either (IsPresent 3) (IsPresent 3)) ≡ false }
 {}
 

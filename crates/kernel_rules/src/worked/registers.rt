@@ -8,6 +8,9 @@ ghost use Rattle.kernel_terms.specs.Statements.{Nothing, Pause, Seq, Par, Trap, 
 ghost use Rattle.kernel_terms.specs.Statements.{Abort, Suspend, Receive};
 ghost use Rattle.kernel_terms.specs.Statements.{SendWaits, Sent, ReceiveWaits, Received};
 ghost use Rattle.kernel_rules.specs.definitions.Registers.{domain_registers, registers, live, residual};
+ghost use Rattle.kernel_rules.specs.definitions.Registers.{statement_registers};
+ghost use Rattle.kernel_rules.specs.Worked.SmallDomain.{two_parts, sends, local_pauses};
+ghost use Rattle.kernel_rules.specs.Worked.Ways.{endless};
 ghost use Rattle.kernel_rules.specs.definitions.Registers.{FitRegisters};
 ghost use Rattle.kernel_rules.specs.definitions.Registers.{variables_held, values_held, last_held};
 ghost use Rattle.kernel_rules.specs.Worked.SmallDomain.{domain_tables, small_domain, pure_domain};
@@ -96,6 +99,7 @@ pub fn registers_refused()
     ensures both_choices { FitRegisters domain_tables small_domain 0 (held (40 ∷ 0 ∷ 0 ∷ 0 ∷ 17 ∷ 1 ∷ 0 ∷ 0 ∷ 1 ∷ [])) → ⊥ }
     ensures both_present { FitRegisters domain_tables pure_domain 0 (held (1 ∷ 0 ∷ 1 ∷ [])) → ⊥ }
     ensures endless { FitRegisters domain_tables endless_branch 0 (held (0 ∷ 1 ∷ [])) → ⊥ }
+    ensures second_endless { FitRegisters domain_tables (Par Pause endless) 0 (held (1 ∷ 0 ∷ [])) → ⊥ }
 {}
 
 /// Each form that has parts has the registers of its parts, is live where they are, stands for what they
@@ -107,4 +111,27 @@ pub fn each_form_has_registers_of_parts()
     ensures stand { map (λ p. residual domain_tables p 0 first_on) (forms_around pauses_twice)
         ≡ forms_left pauses_twice (Seq Nothing Pause) }
     ensures refused { All (λ p. FitRegisters domain_tables p 0 both_on → ⊥) (forms_around pauses_twice) }
+{}
+
+/// The registers of the second part of a form come after those of the first: their kinds, which part is
+/// live, what they stand for, and whether they fit.
+pub fn second_part_has_later_registers()
+    ensures kinds { map (λ p. statement_registers domain_tables p) (two_parts Pause sends)
+        ≡ map (λ p. kind.Boolean ∷ kind.Boolean ∷ kind.Boolean ∷ kind.Short ∷ []) (two_parts Pause sends) }
+    ensures other_kinds { map (λ p. statement_registers domain_tables p) (two_parts sends Pause)
+        ≡ map (λ p. kind.Boolean ∷ kind.Boolean ∷ kind.Short ∷ kind.Boolean ∷ []) (two_parts sends Pause) }
+    ensures first { list_all (λ p. live domain_tables p 0 (held (1 ∷ 0 ∷ 0 ∷ []))) (two_parts Pause pauses_twice) ≡ true }
+    ensures second { list_all (λ p. live domain_tables p 0 (held (0 ∷ 0 ∷ 1 ∷ []))) (two_parts Pause pauses_twice) ≡ true }
+    ensures neither { list_any (λ p. live domain_tables p 0 (held [])) (two_parts Pause pauses_twice) ≡ false }
+    ensures first_waits { map (λ p. residual domain_tables p 0 (held (1 ∷ 0 ∷ 1 ∷ 0 ∷ []))) (two_parts (Receive 1) pauses_twice)
+        ≡ ReceiveWaits 1 ∷ ReceiveWaits 1 ∷ Seq (ReceiveWaits 1) pauses_twice ∷ Par (ReceiveWaits 1) (Seq Nothing Pause) ∷ [] }
+    ensures second_waits { map (λ p. residual domain_tables p 0 (held (0 ∷ 1 ∷ 0 ∷ []))) (two_parts Pause (Receive 1))
+        ≡ ReceiveWaits 1 ∷ ReceiveWaits 1 ∷ ReceiveWaits 1 ∷ Par Nothing (ReceiveWaits 1) ∷ [] }
+    ensures second_met { map (λ p. residual domain_tables p 0 (held (0 ∷ 1 ∷ 1 ∷ []))) (two_parts Pause (Receive 1))
+        ≡ Received 1 ∷ Received 1 ∷ Received 1 ∷ Par Nothing (Received 1) ∷ [] }
+    ensures fit_first { All (λ p. FitRegisters domain_tables p 0 (held (1 ∷ 0 ∷ 0 ∷ []))) (two_parts Pause pauses_twice) }
+    ensures fit_second { All (λ p. FitRegisters domain_tables p 0 (held (0 ∷ 0 ∷ 1 ∷ []))) (two_parts Pause pauses_twice) }
+    ensures refused { All (λ p. FitRegisters domain_tables p 0 (held (0 ∷ 1 ∷ 1 ∷ [])) → ⊥) (two_parts Pause pauses_twice) }
+    ensures in_local { FitRegisters domain_tables local_pauses 0 (held (1 ∷ 1 ∷ 0 ∷ [])) }
+    ensures refused_in_local { FitRegisters domain_tables local_pauses 0 (held (0 ∷ 1 ∷ 1 ∷ [])) → ⊥ }
 {}

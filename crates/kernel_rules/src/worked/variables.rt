@@ -1,21 +1,29 @@
 //! Ticks of statements on variables.
 
-ghost use Rattle.std.specs.Prelude.{◌≡◌, ℕ, ℤ, true, false, [], ◌∷◌, map};
+ghost use Rattle.std.specs.Prelude.{◌≡◌, ℕ, ℤ, true, false, ◌||◌, [], ◌∷◌, ◌++◌, map};
 ghost use Rattle.std.specs.List.{list_all, list_any};
 ghost use Rattle.kernel_terms.specs.declared.tables.Tables.{Tables};
 ghost use Rattle.kernel_terms.specs.Expressions.{IsPresent};
-ghost use Rattle.kernel_terms.specs.Statements.{Abort, Exit, Loop, Nothing, Par, Pause, Seq, Suspend, Trap};
+ghost use Rattle.kernel_terms.specs.Statements.{Abort, Assign, Exit, If, Loop, Nothing, Par, Pause, Present};
+ghost use Rattle.kernel_terms.specs.Statements.{Receive, Seq, Suspend, Trap};
 ghost use Rattle.kernel_rules.specs.definitions.Signals.{Env};
 ghost use Rattle.kernel_rules.specs.definitions.TickRule.{Tick, Ticks, writes};
 ghost use Rattle.kernel_rules.specs.ShownTicks.{Shows, pauses, ends, pauses_in, ends_in};
 ghost use Rattle.kernel_rules.specs.ShownTicks.{emitted, statuses, absent, absent_with, present};
-ghost use Rattle.kernel_rules.specs.Worked.Words.{no_tables, variable, emit, emit_value, assign};
+ghost use Rattle.kernel_rules.specs.Worked.Words.{no_tables, variable, signal_value, emit, emit_value, assign};
+ghost use Rattle.kernel_rules.specs.Rows.{int};
 ghost use Rattle.kernel_rules.specs.Worked.Variables.{assigned_twice, summed_up, two_pauses};
-ghost use Rattle.kernel_rules.specs.Worked.Variables.{branched, asked, counted, then_shown};
+ghost use Rattle.kernel_rules.specs.Worked.Variables.{branched, truth, asked, counted, then_shown};
+ghost use Rattle.kernel_rules.specs.Worked.Variables.{exits_and_assigns};
 ghost use Rattle.kernel_rules.specs.Worked.Variables.{beside_then_shown, assigns_and_pauses};
 ghost use Rattle.kernel_rules.specs.Worked.Variables.{pauses_twice, may_assign};
 ghost use Rattle.kernel_rules.specs.Worked.Variables.{forms_around, forms_alone};
 ghost use Rattle.kernel_rules.specs.Worked.Variables.{mentioning, tested, waits, numbers};
+ghost use Rattle.kernel_rules.specs.Worked.Variables.{expressions_around, forms_with, forms_testing};
+ghost use Rattle.kernel_rules.specs.Worked.Variables.{tests_of_three, forms_on_channel};
+ghost use Rattle.kernel_rules.specs.Worked.Variables.{forms_on_signal, nameless_forms};
+ghost use Rattle.kernel_rules.specs.Worked.Readings.{channel_value};
+ghost use Rattle.kernel_rules.specs.definitions.Mentions.{reads_variable, reads_signal, reads_channel, tests_signal};
 ghost use Rattle.kernel_rules.specs.definitions.Mentions.{mentions_variable, mentions_signal, mentions_channel};
 
 /// The second part of a sequence reads what the first has assigned, and the first reads nothing of
@@ -49,7 +57,8 @@ pub fn present_takes_one_branch()
         (ends_in (statuses (present ∷ present ∷ absent_with 1 ∷ [])) (emitted 1 0 ∷ []) ∷ ends [] ∷ []) }
 {}
 
-/// A trap, a suspend and an abort hand on what their body has assigned, at once and later.
+/// A trap, a suspend and an abort hand on what their body has assigned, at once and later, and a choice
+/// what its branch has.
 pub fn body_hands_on_variables()
     ensures trap { Shows no_tables (then_shown (Trap (Seq (assign 0 1) (Exit 0))))
         (ends (emitted 1 1 ∷ []) ∷ []) }
@@ -68,6 +77,14 @@ pub fn body_hands_on_variables()
     ensures weak_later { Shows no_tables
         (then_shown (Abort true false (IsPresent 0) (Seq Pause (assign 0 1))))
         (pauses [] ∷ ends (emitted 1 1 ∷ []) ∷ []) }
+    ensures first_choice { Shows no_tables (then_shown (If (truth true) (assign 0 1) (assign 0 2)))
+        (ends (emitted 1 1 ∷ []) ∷ []) }
+    ensures second_choice { Shows no_tables (then_shown (If (truth false) (assign 0 1) (assign 0 2)))
+        (ends (emitted 1 2 ∷ []) ∷ []) }
+    ensures present { Shows no_tables (then_shown (Present (IsPresent 0) (assign 0 1) (assign 0 2)))
+        (ends_in (statuses (present ∷ [])) (emitted 1 1 ∷ []) ∷ []) }
+    ensures absent { Shows no_tables (then_shown (Present (IsPresent 0) (assign 0 1) (assign 0 2)))
+        (ends (emitted 1 2 ∷ []) ∷ []) }
 {}
 
 /// A loop begins its body anew in the tick in which the body ends, from the variables that it left.
@@ -84,7 +101,7 @@ pub fn endless_turn_has_no_tick()
 {}
 
 /// After a parallel the variables that its first branch may assign come from it, whether it has
-/// assigned them or not, and all others from the second.
+/// assigned them or not, and all others from the second, also where a branch exits.
 pub fn parallel_joins_variables()
     ensures first { Shows no_tables (beside_then_shown (assigns_and_pauses 1) pauses_twice)
         (pauses [] ∷ pauses [] ∷ ends (emitted 1 1 ∷ []) ∷ []) }
@@ -94,6 +111,8 @@ pub fn parallel_joins_variables()
         (ends (emitted 1 1 ∷ []) ∷ []) }
     ensures unassigned { Shows no_tables (beside_then_shown may_assign (assign 0 2))
         (ends (emitted 1 0 ∷ []) ∷ []) }
+    ensures at_exit { Shows no_tables exits_and_assigns
+        (ends (emitted 0 1 ∷ emitted 1 2 ∷ []) ∷ ends [] ∷ []) }
 {}
 
 /// A statement may assign the variables that an assignment in it names, and no others.
@@ -120,6 +139,46 @@ pub fn statement_mentions_what_it_names()
         ≡ true ∷ true ∷ true ∷ true ∷ false ∷ false ∷ [] }
     ensures around { list_all (λ p. mentions_variable p 3) (forms_around (assign 3 5)) ≡ true }
     ensures around_other { list_any (λ p. mentions_variable p 2) (forms_around (assign 3 5)) ≡ false }
+{}
+
+/// An expression reads what one of its operands reads, and a test tests what one of its parts tests.
+pub fn operands_are_read()
+    ensures variable { list_all (λ e. reads_variable e 3) (expressions_around (variable 3)) ≡ true }
+    ensures signal { list_all (λ e. reads_signal e 3) (expressions_around (signal_value 3)) ≡ true }
+    ensures channel { list_all (λ e. reads_channel e 3) (expressions_around (channel_value 3)) ≡ true }
+    ensures no_variable { list_any (λ e. reads_variable e 3 || reads_variable e 4)
+        (expressions_around (signal_value 3) ++ expressions_around (channel_value 3)) ≡ false }
+    ensures no_signal { list_any (λ e. reads_signal e 3 || reads_signal e 4)
+        (expressions_around (variable 3) ++ expressions_around (channel_value 3)) ≡ false }
+    ensures no_channel { list_any (λ e. reads_channel e 3 || reads_channel e 4)
+        (expressions_around (variable 3) ++ expressions_around (signal_value 3)) ≡ false }
+    ensures other_variable { list_any (λ e. reads_variable e 4) (expressions_around (variable 3)) ≡ false }
+    ensures other_signal { list_any (λ e. reads_signal e 4) (expressions_around (signal_value 3)) ≡ false }
+    ensures other_channel { list_any (λ e. reads_channel e 4) (expressions_around (channel_value 3)) ≡ false }
+    ensures tests { list_all (λ t. tests_signal t 3) tests_of_three ≡ true }
+    ensures other_tests { list_any (λ t. tests_signal t 2) tests_of_three ≡ false }
+{}
+
+/// Each form by itself mentions what it names, and nothing else.
+pub fn each_form_mentions_what_it_names()
+    ensures variable { list_all (λ p. mentions_variable p 3) (Assign 3 (int 4) ∷ forms_with (variable 3)) ≡ true }
+    ensures signal { list_all (λ p. mentions_signal p 3)
+        (forms_on_signal ++ forms_with (signal_value 3) ++ forms_testing (IsPresent 3)) ≡ true }
+    ensures channel { list_all (λ p. mentions_channel p 3) (forms_on_channel ++ forms_with (channel_value 3)) ≡ true }
+    ensures no_variable { list_any (λ p. mentions_variable p 3 || mentions_variable p 4)
+        (nameless_forms ++ forms_on_signal ++ forms_on_channel ++ forms_testing (IsPresent 3)
+        ++ forms_with (signal_value 3) ++ forms_with (channel_value 3)) ≡ false }
+    ensures no_signal { list_any (λ p. mentions_signal p 3 || mentions_signal p 4)
+        (Assign 3 (int 4) ∷ nameless_forms ++ forms_on_channel ++ forms_with (variable 3)
+        ++ forms_with (channel_value 3)) ≡ false }
+    ensures no_channel { list_any (λ p. mentions_channel p 3 || mentions_channel p 4)
+        (Assign 3 (int 4) ∷ nameless_forms ++ forms_on_signal ++ forms_testing (IsPresent 3)
+        ++ forms_with (variable 3) ++ forms_with (signal_value 3)) ≡ false }
+    ensures no_channel_besides { list_any (λ p. mentions_channel p 4) forms_on_channel ≡ false }
+    ensures no_signal_besides { list_any (λ p. mentions_signal p 4) (forms_on_signal ++ forms_testing (IsPresent 3)) ≡ false }
+    ensures around_signal { list_all (λ p. mentions_signal p 3) (forms_around (emit 3)) ≡ true }
+    ensures around_channel { list_all (λ p. mentions_channel p 3) (forms_around (Receive 3)) ≡ true }
+    ensures around_no_channel { list_any (λ p. mentions_channel p 2) (forms_around (Receive 3)) ≡ false }
 {}
 
 /// Neither branch of a parallel reads what the other assigns in the tick, and the first one's

@@ -19,3 +19,6 @@ returns-clause-weak c = shows _ _ _ _ _ refl
 
 pub returns-clause-aborted : goal.returns-clause-aborted
 returns-clause-aborted c = shows _ _ _ _ _ refl
+
+pub returns-clause-strong : goal.returns-clause-strong
+returns-clause-strong c = shows _ _ _ _ _ refl

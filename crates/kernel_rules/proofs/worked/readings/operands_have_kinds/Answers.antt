@@ -25,3 +25,19 @@ returns-clause-minus_int c = refl
 pub returns-clause-minus_long : goal.returns-clause-minus_long
 unfolding int_wrap
 returns-clause-minus_long c = refl
+
+pub returns-clause-shifted_int : goal.returns-clause-shifted_int
+unfolding int_wrap
+returns-clause-shifted_int c = refl
+
+pub returns-clause-shifted_long : goal.returns-clause-shifted_long
+unfolding int_wrap
+returns-clause-shifted_long c = refl
+
+pub returns-clause-forms_of_int : goal.returns-clause-forms_of_int
+unfolding int_wrap
+returns-clause-forms_of_int c = refl
+
+pub returns-clause-forms_of_long : goal.returns-clause-forms_of_long
+unfolding int_wrap
+returns-clause-forms_of_long c = refl

@@ -30,3 +30,9 @@ returns-clause-either_second c = refl
 
 pub returns-clause-neither : goal.returns-clause-neither
 returns-clause-neither c = refl
+
+pub returns-clause-both_absent : goal.returns-clause-both_absent
+returns-clause-both_absent c = refl
+
+pub returns-clause-either_both : goal.returns-clause-either_both
+returns-clause-either_both c = refl

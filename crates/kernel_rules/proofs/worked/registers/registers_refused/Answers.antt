@@ -18,3 +18,6 @@ returns-clause-both_present c = λ h. let e : true ≡ false = (h.apart).0 in ab
 
 pub returns-clause-endless : goal.returns-clause-endless
 returns-clause-endless c = λ h. let e : true ≡ false = sym (((h.apart).0 refl).0) in absurd cc
+
+pub returns-clause-second_endless : goal.returns-clause-second_endless
+returns-clause-second_endless c = λ h. let e : true ≡ false = sym (((h.apart).0 refl).1) in absurd cc

@@ -22,3 +22,15 @@ returns-clause-strong_later c = shows _ _ _ _ _ refl
 
 pub returns-clause-weak_later : goal.returns-clause-weak_later
 returns-clause-weak_later c = shows _ _ _ _ _ refl
+
+pub returns-clause-first_choice : goal.returns-clause-first_choice
+returns-clause-first_choice c = shows _ _ _ _ _ refl
+
+pub returns-clause-second_choice : goal.returns-clause-second_choice
+returns-clause-second_choice c = shows _ _ _ _ _ refl
+
+pub returns-clause-present : goal.returns-clause-present
+returns-clause-present c = shows _ _ _ _ _ refl
+
+pub returns-clause-absent : goal.returns-clause-absent
+returns-clause-absent c = shows _ _ _ _ _ refl

@@ -13,3 +13,6 @@ returns-clause-both c = shows _ _ _ _ _ refl
 
 pub returns-clause-unassigned : goal.returns-clause-unassigned
 returns-clause-unassigned c = shows _ _ _ _ _ refl
+
+pub returns-clause-at_exit : goal.returns-clause-at_exit
+returns-clause-at_exit c = shows _ _ _ _ _ refl
