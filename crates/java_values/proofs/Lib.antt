@@ -1,3 +1,3 @@
-pub mod Wrapping
-pub mod Fitting
-pub mod InRange
+pub mod WrappingLemmas
+pub mod FittingLemmas
+pub mod InRangeLemmas

@@ -11,8 +11,8 @@ use Rattle.java_values.specs.declared.kind.Kind.{Kind}
 use Rattle.java_values.specs.declared.kind.Kind.TheVariants.{Boolean, Byte, Short, Char, Int, Long}
 use Rattle.java_values.specs.Kinds.{IsInRange, promoted2}
 use Rattle.java_values.specs.Arithmetic.{wrapped, width_of}
-use Rattle.java_values.proofs.Wrapping.{low_bits_wrap, small_wraps, bits_wrap}
-use Rattle.java_values.proofs.InRange.{wrapped_range}
+use Rattle.java_values.proofs.WrappingLemmas.{low_bits_wrap, small_wraps, bits_wrap}
+use Rattle.java_values.proofs.InRangeLemmas.{wrapped_range}
 use Rattle.kernel_terms.specs.declared.tables.Combine.{Combine}
 use Rattle.kernel_terms.specs.declared.tables.Combine.TheVariants.{Add, Max, Min, And, Or, Xor}
 use Rattle.kernel_rules.specs.definitions.Signals.{combined}

@@ -1,6 +1,6 @@
 use Rattle.std.proofs.Common.{rules}
 use Rattle.std.specs.Int.{w32}
-use Rattle.java_values.proofs.Wrapping.{low_bits_wrap}
+use Rattle.java_values.proofs.WrappingLemmas.{low_bits_wrap}
 use Rattle.java_values.proofs.apply.low_int.Goals as goal
 
 pub returns : goal.returns

@@ -1,6 +1,6 @@
 use Rattle.std.proofs.Common.{rules}
 use Rattle.std.specs.Int.{w16}
-use Rattle.java_values.proofs.Wrapping.{low_bits_wrap}
+use Rattle.java_values.proofs.WrappingLemmas.{low_bits_wrap}
 use Rattle.java_values.proofs.apply.low_short.Goals as goal
 
 pub returns : goal.returns

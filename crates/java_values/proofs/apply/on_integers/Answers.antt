@@ -1,7 +1,7 @@
 use Rattle.std.proofs.Common.{subst, ◌∙◌}
 use Rattle.std.specs.Prelude.{◌&&◌, IsSome}
 use Rattle.java_values.specs.Kinds.{is_integer, are_boolean, promoted, promoted2, result_kind2}
-use Rattle.java_values.proofs.Fitting.{given_kind, given_kind_else}
+use Rattle.java_values.proofs.FittingLemmas.{given_kind, given_kind_else}
 use Rattle.java_values.proofs.apply.on_integers.Goals as goal
 
 pub returns-in-Shl-clause-kind : goal.returns-in-Shl-clause-kind

@@ -1,4 +1,4 @@
-use Rattle.java_values.proofs.InRange.{wrapped_range, wrapped_kept}
+use Rattle.java_values.proofs.InRangeLemmas.{wrapped_range, wrapped_kept}
 use Rattle.java_values.proofs.laws.wrapped_numbers_are_in_range.Goals as goal
 
 pub returns-clause-range : goal.returns-clause-range

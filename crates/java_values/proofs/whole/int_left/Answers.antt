@@ -1,5 +1,5 @@
 use Rattle.std.specs.Int.{w32}
-use Rattle.java_values.proofs.Wrapping.{shift_wraps}
+use Rattle.java_values.proofs.WrappingLemmas.{shift_wraps}
 use Rattle.java_values.proofs.whole.int_left.Goals as goal
 
 pub returns : goal.returns

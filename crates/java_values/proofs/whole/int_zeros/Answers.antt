@@ -1,6 +1,6 @@
 use Rattle.std.proofs.Common.{rules}
 use Rattle.std.specs.Int.{w32}
-use Rattle.java_values.proofs.Wrapping.{zeros_wrap}
+use Rattle.java_values.proofs.WrappingLemmas.{zeros_wrap}
 use Rattle.java_values.proofs.whole.int_zeros.Goals as goal
 
 pub returns : goal.returns

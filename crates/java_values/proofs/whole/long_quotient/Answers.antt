@@ -2,7 +2,7 @@ use Rattle.std.proofs.Common.{arith, ◌<◌, ◌^◌}
 use Rattle.std.specs.Int.{w64}
 use Rattle.std.specs.Prelude.{unsigned_abs, int_div}
 use Rattle.std.specs.Int.Signed.{nat_abs-le}
-use Rattle.java_values.proofs.Wrapping.{quotient_wraps, quotient_below}
+use Rattle.java_values.proofs.WrappingLemmas.{quotient_wraps, quotient_below}
 use Rattle.java_values.proofs.whole.long_quotient.Goals as goal
 
 pub returns : goal.returns
