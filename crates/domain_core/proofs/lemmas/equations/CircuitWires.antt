@@ -7,7 +7,7 @@ use Rattle.domain_core.specs.equations.BuiltForms.{Plain, Nothing, Pause, Emit, 
 use Rattle.tick_code.specs.declared.equation.Equation.{Equation}
 use Rattle.tick_code.specs.declared.formula.Formula.TheVariants.{Or}
 use Rattle.tick_code.specs.Formulas.{Satisfies, is_on, is_true, of_bool}
-use Rattle.tick_code.proofs.Solving.{satisfies_front, satisfies_back}
+use Rattle.tick_code.proofs.SolvingLemmas.{satisfies_front, satisfies_back}
 use Rattle.kernel_terms.specs.declared.tables.Tables.{Tables}
 use Rattle.kernel_terms.specs.Statements.{Stmt}
 use Rattle.kernel_terms.specs.Statements as rules

@@ -13,7 +13,7 @@ use Rattle.tick_code.specs.declared.equation.Equation.{Equation}
 use Rattle.tick_code.specs.declared.formula.Formula.{Formula}
 use Rattle.tick_code.specs.declared.formula.Formula.TheVariants.{Const, Get, And, Or, Not}
 use Rattle.tick_code.specs.Formulas.{FitsFrame, ReadsFrame, Satisfies, is_on, is_true, number_at}
-use Rattle.tick_code.proofs.Solving.{satisfies_back}
+use Rattle.tick_code.proofs.SolvingLemmas.{satisfies_back}
 use Rattle.domain_core.specs.equations.BuiltForms.{Plain, whole}
 use Rattle.domain_core.specs.equations.BuiltRegisters.{registers, literals, HoldsLiteral}
 use Rattle.domain_core.specs.equations.Circuit.{Part, start, resume, is_set, emitted}

@@ -4,7 +4,7 @@ use Rattle.std.proofs.Common.{rules, to_z, of_z, w64, get_or, length-set}
 use Rattle.tick_code.specs.Formulas.{ReadsBelow}
 use Rattle.tick_code.specs.declared.equation.Equation.{Equation}
 use Rattle.tick_code.specs.declared.formula.Formula.TheVariants.{Const}
-use Rattle.tick_code.proofs.Solving.{ordered_at, fits_at, solve_step}
+use Rattle.tick_code.proofs.SolvingLemmas.{ordered_at, fits_at, solve_step}
 use Rattle.std.proofs.Common.{pos}
 use Rattle.tick_code.proofs.code.solve.Goals as goal
 
