@@ -2,7 +2,7 @@
 use Rattle.std.proofs.Common.{ℕ, List, [], ◌∷◌, ◌++◌, Option, subst}
 use Rattle.cell_core.specs.declared.moves.Joined.{Joined}
 use Rattle.cell_core.specs.declared.moves.CellMove.{CellMove}
-use Rattle.cell_core.specs.Ends.{EndCall, Through}
+use Rattle.cell_core.specs.definitions.Ends.{EndCall, Through}
 
 module _ {S : Type 0} (moved : S → ℕ → CellMove → Option Joined → S → Type 0) where
   -- no call leads from the ends to themselves

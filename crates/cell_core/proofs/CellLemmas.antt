@@ -7,9 +7,9 @@ use Rattle.cell_core.specs.declared.moves.CellMove.{CellMove}
 use Rattle.cell_core.specs.declared.moves.CellMove.TheVariants.{Offer, Recall}
 use Rattle.cell_core.specs.declared.cell.Standing.{Standing}
 use Rattle.cell_core.specs.declared.cell.Standing.TheVariants.{Empty, Open, Taken}
-use Rattle.cell_core.specs.Cells.{CellState, other, after_own_offer, after_offer, offer_reply, recall_reply, cell_step, cell_reply}
-use Rattle.cell_core.specs.Histories.{side_of}
-use Rattle.cell_core.specs.Ends.{JoinsOffer, JoinsStanding, IsOffer}
+use Rattle.cell_core.specs.definitions.Cells.{CellState, other, after_own_offer, after_offer, offer_reply, recall_reply, cell_step, cell_reply}
+use Rattle.cell_core.specs.definitions.Histories.{side_of}
+use Rattle.cell_core.specs.definitions.Ends.{JoinsOffer, JoinsStanding, IsOffer}
 use Rattle.cell_core.specs.CellEnds.{standing_offer, end_of_cell, OfferFits, StandingFits, CellFits, MoveFits}
 
 -- a side stands exactly where its end has an offer that stands

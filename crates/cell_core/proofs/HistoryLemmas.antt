@@ -4,8 +4,8 @@ use Rattle.cell_core.specs.declared.moves.Side.{Side}
 use Rattle.cell_core.specs.declared.moves.Side.TheVariants.{Sender, Receiver}
 use Rattle.cell_core.specs.declared.moves.CellMove.{CellMove}
 use Rattle.cell_core.specs.declared.moves.Entry.{Entry}
-use Rattle.cell_core.specs.Cells.{CellState, empty_cell, cell_step, cell_reply, CanMove}
-use Rattle.cell_core.specs.Histories.{entry, cell_after, AllCanMove, side_of, if_side, entries, IsCellHistory, Runs, TakesNext, AreByPlace, RunsByPlace}
+use Rattle.cell_core.specs.definitions.Cells.{CellState, empty_cell, cell_step, cell_reply, CanMove}
+use Rattle.cell_core.specs.definitions.Histories.{entry, cell_after, AllCanMove, side_of, if_side, entries, IsCellHistory, Runs, TakesNext, AreByPlace, RunsByPlace}
 
 append-nil : (xs : List Entry) → xs ++ [] ≡ xs
 append-nil [] = refl

@@ -1,16 +1,14 @@
 -- A cell seen as the two ends of a channel.
 use Rattle.std.specs.Prelude.{ℕ, ◌^◌, ◌<◌, ℤ, pos, Option, Some, None}
 use Rattle.java_values.specs.declared.kind.Kind.{Kind}
-use Rattle.java_values.specs.Kinds.{IsInRange}
 use Rattle.cell_core.specs.declared.moves.Side.{Side}
 use Rattle.cell_core.specs.declared.moves.Side.TheVariants.{Sender, Receiver}
-use Rattle.cell_core.specs.declared.moves.Joined.{Joined}
 use Rattle.cell_core.specs.declared.moves.CellMove.{CellMove}
 use Rattle.cell_core.specs.declared.moves.CellMove.TheVariants.{Offer, Recall}
 use Rattle.cell_core.specs.declared.cell.Standing.{Standing}
 use Rattle.cell_core.specs.declared.cell.Standing.TheVariants.{Empty, Open, Taken}
-use Rattle.cell_core.specs.Cells.{CellState, standing_at}
-use Rattle.cell_core.specs.Ends.{StandingOffer, EndView, ValueFits}
+use Rattle.cell_core.specs.definitions.Cells.{CellState, standing_at}
+use Rattle.cell_core.specs.definitions.Ends.{StandingOffer, EndView, JoinFits, ValueFits}
 
 -- the value of an offer of a side, where a receiver's is ignored
 abbrev pub offered_value : Side → ℤ → ℤ
@@ -29,12 +27,6 @@ standing_offer a (Taken j) = Some (offered a j.value j.mine)
 -- the end at a side of a cell
 abbrev pub end_of_cell : Kind → ℕ → Side → CellState → EndView
 end_of_cell kind room a c = record { side = a; kind = kind; offer = standing_offer a (standing_at a c); room = room }
-
--- a value in the kind and two stamps below 2^62
-pub record JoinFits (kind : Kind) (j : Joined) : Type 0 where
-  pub value : IsInRange kind j.value
-  pub mine : j.mine < 2 ^ 62
-  pub theirs : j.theirs < 2 ^ 62
 
 -- a sender's value in the kind and a stamp below 2^62
 pub record OfferFits (kind : Kind) (a : Side) (v : ℤ) (s : ℕ) : Type 0 where

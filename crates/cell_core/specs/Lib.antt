@@ -1,4 +1,2 @@
-pub mod Cells
-pub mod Histories
-pub mod Ends
+pub mod definitions
 pub mod CellEnds

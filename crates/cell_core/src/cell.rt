@@ -24,7 +24,7 @@ pub struct Cell {
 }
 
 impl Model for Cell {
-    ghost use Rattle.cell_core.specs.Cells.{CellState};
+    ghost use Rattle.cell_core.specs.definitions.Cells.{CellState};
 
     ghost Value = { CellState };
 
@@ -43,7 +43,7 @@ fn turned(join: Joined) -> Joined
 }
 
 impl Cell {
-    ghost use Rattle.cell_core.specs.Cells.{cell_step, cell_reply, cell_of, other, standing_at, stands, empty_cell};
+    ghost use Rattle.cell_core.specs.definitions.Cells.{cell_step, cell_reply, cell_of, other, standing_at, stands, empty_cell};
 
     /// A cell at which neither side stands.
     pub fn new() -> Cell

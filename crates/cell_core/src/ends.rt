@@ -2,7 +2,7 @@ ghost use Rattle.std.specs.Prelude.{◌≡◌, ◌^◌, ◌<◌, ◌≤◌, ℕ,
 ghost use Rattle.cell_core.specs.declared.moves.CellMove.{CellMove};
 ghost use Rattle.cell_core.specs.declared.moves.CellMove.TheVariants as moves;
 ghost use Rattle.cell_core.specs.declared.moves.Joined.{Joined};
-ghost use Rattle.cell_core.specs.Ends.{EndView, ChangesOwnEnd, ValueFits, JoinsOffer, JoinsStanding, IsOffer};
+ghost use Rattle.cell_core.specs.definitions.Ends.{EndView, ChangesOwnEnd, ValueFits, JoinsOffer, JoinsStanding, IsOffer};
 
 use crate::moves::Joined;
 

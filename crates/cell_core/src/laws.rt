@@ -4,7 +4,7 @@ ghost use Rattle.std.specs.Prelude.{[], ◌∷◌, Some, None, pos, List, ◌↔
 ghost use Rattle.cell_core.specs.declared.moves.Entry.{Entry};
 ghost use Rattle.cell_core.specs.declared.moves.CellMove.TheVariants as moves;
 ghost use Rattle.cell_core.specs.declared.moves.Side.TheVariants as sides;
-ghost use Rattle.cell_core.specs.Histories.{entry, IsCellHistory, RunsByPlace};
+ghost use Rattle.cell_core.specs.definitions.Histories.{entry, IsCellHistory, RunsByPlace};
 
 /// A send and a receive meet: the sender offers, the receiver joins the offer, and the sender finds the
 /// join at its recall. Each side has the sent value, its own stamp and the other's.

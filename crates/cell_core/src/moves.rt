@@ -8,7 +8,7 @@ pub enum Side {
 }
 
 impl Side {
-    ghost use Rattle.cell_core.specs.Cells.{other};
+    ghost use Rattle.cell_core.specs.definitions.Cells.{other};
 
     /// The side across the channel.
     pub fn other(self) -> Side

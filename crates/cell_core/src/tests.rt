@@ -1,6 +1,6 @@
 ghost use Rattle.std.specs.Prelude.{◌≡◌, ◌≢◌, ◌^◌, ◌<◌, ◌≤◌, IsNone, IfSome, cond, nat_eq, ℕ, List};
 ghost use Rattle.cell_core.specs.declared.moves.Side.TheVariants as sides;
-ghost use Rattle.cell_core.specs.Ends.{ValueFits, JoinsOffer, Through, EndCall};
+ghost use Rattle.cell_core.specs.definitions.Ends.{ValueFits, JoinsOffer, Through, EndCall};
 
 use crate::{Cell, Ends, Joined, Side, histories_by_place, one_meeting};
 use java_values::Kind;
@@ -16,7 +16,7 @@ struct TwoEnds {
 
 impl Model for TwoEnds {
     ghost use Rattle.java_values.specs.declared.kind.Kind.{Kind};
-    ghost use Rattle.cell_core.specs.Cells.{CellState};
+    ghost use Rattle.cell_core.specs.definitions.Cells.{CellState};
     ghost use Rattle.cell_core.specs.CellEnds.{CellFits};
 
     ghost Value = { Kind × CellState };
@@ -39,7 +39,7 @@ fn side_at(at: usize) -> Side
 impl Ends for TwoEnds {
     ghost use Rattle.std.specs.Prelude.{◌≡◌, cond, nat_eq};
     ghost use Rattle.cell_core.specs.declared.moves.Side.TheVariants as sides;
-    ghost use Rattle.cell_core.specs.Cells.{cell_step, cell_reply};
+    ghost use Rattle.cell_core.specs.definitions.Cells.{cell_step, cell_reply};
     ghost use Rattle.cell_core.specs.CellEnds.{end_of_cell};
 
     ghost count = { λ e. 2 };

@@ -7,9 +7,9 @@ use Rattle.cell_core.specs.declared.moves.Side.{Side}
 use Rattle.cell_core.specs.declared.moves.Joined.{Joined}
 use Rattle.cell_core.specs.declared.moves.CellMove.{CellMove}
 use Rattle.cell_core.specs.declared.moves.CellMove.TheVariants.{Offer, Recall}
-use Rattle.cell_core.specs.Histories.{entry}
-use Rattle.cell_core.specs.Ends.{StandingOffer}
-use Rattle.cell_core.specs.CellEnds.{JoinFits}
+use Rattle.cell_core.specs.definitions.Histories.{entry}
+use Rattle.cell_core.specs.definitions.Ends.{StandingOffer}
+use Rattle.cell_core.specs.definitions.Ends.{JoinFits}
 use Rattle.channel_cell.specs.declared.rule.Knows.{Knows}
 use Rattle.channel_cell.specs.declared.rule.View.TheVariants.{Own}
 use Rattle.channel_cell.specs.definitions.Channels.{EndState, LegalFor, Makes, offer_left}

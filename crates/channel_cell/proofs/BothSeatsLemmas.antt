@@ -9,9 +9,9 @@ use Rattle.cell_core.specs.declared.moves.Side.TheVariants.{Sender, Receiver}
 use Rattle.cell_core.specs.declared.moves.Joined.{Joined}
 use Rattle.cell_core.specs.declared.moves.CellMove.{CellMove}
 use Rattle.cell_core.specs.declared.moves.CellMove.TheVariants.{Recall}
-use Rattle.cell_core.specs.Cells.{other}
-use Rattle.cell_core.specs.CellEnds.{JoinFits}
-use Rattle.cell_core.specs.Histories.{entry, IsCellHistory}
+use Rattle.cell_core.specs.definitions.Cells.{other}
+use Rattle.cell_core.specs.definitions.Ends.{JoinFits}
+use Rattle.cell_core.specs.definitions.Histories.{entry, IsCellHistory}
 use Rattle.channel_cell.specs.declared.rule.View.TheVariants.{Both}
 use Rattle.channel_cell.specs.Tallies.{Tally, counted, counter_in, unit, most}
 use Rattle.channel_cell.specs.Lanes.{value_lane, stamp_lane, IsOwn}

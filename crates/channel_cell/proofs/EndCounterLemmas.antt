@@ -4,13 +4,13 @@ use Rattle.std.specs.Prelude.{Option}
 use Rattle.cell_core.specs.declared.moves.Side.TheVariants.{Sender, Receiver}
 use Rattle.cell_core.specs.declared.cell.Standing.{Standing}
 use Rattle.cell_core.specs.declared.cell.Standing.TheVariants.{Empty, Open, Taken}
-use Rattle.cell_core.specs.Cells.{CellState}
+use Rattle.cell_core.specs.definitions.Cells.{CellState}
 use Rattle.cell_core.specs.declared.moves.Entry.{Entry}
 use Rattle.cell_core.specs.declared.moves.Joined.{Joined}
 use Rattle.cell_core.specs.declared.moves.CellMove.{CellMove}
 use Rattle.cell_core.specs.declared.moves.CellMove.TheVariants.{Offer, Recall}
-use Rattle.cell_core.specs.Cells.{stands, after_own_offer, after_offer, offer_reply, recall_reply}
-use Rattle.cell_core.specs.Histories.{entry, cell_after, AllCanMove, entries}
+use Rattle.cell_core.specs.definitions.Cells.{stands, after_own_offer, after_offer, offer_reply, recall_reply}
+use Rattle.cell_core.specs.definitions.Histories.{entry, cell_after, AllCanMove, entries}
 use Rattle.channel_cell.specs.Tallies.{Tally, none_yet, counted, tally_from, tally}
 
 pub record Rests (t : Tally) : Type 0 where

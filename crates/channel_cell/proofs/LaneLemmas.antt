@@ -10,7 +10,7 @@ use Rattle.cell_core.specs.declared.cell.Standing.{Standing}
 use Rattle.cell_core.specs.declared.cell.Standing.TheVariants.{Empty, Open, Taken}
 use Rattle.cell_core.specs.declared.moves.Joined.{Joined}
 use Rattle.cell_core.specs.declared.moves.CellMove.TheVariants.{Offer, Recall}
-use Rattle.cell_core.specs.Cells.{stands, other, join_of, after_own_offer, after_offer, offer_reply, recall_reply}
+use Rattle.cell_core.specs.definitions.Cells.{stands, other, join_of, after_own_offer, after_offer, offer_reply, recall_reply}
 use Rattle.channel_cell.specs.Tallies.{Tally, counted}
 use Rattle.channel_cell.specs.Lanes.{value_lane, stamp_lane, Says, SaysOpen, SaysTaken, SaysLast, Shows}
 use Rattle.channel_cell.proofs.EndCounterLemmas.{Fits}

@@ -7,8 +7,8 @@ use Rattle.cell_core.specs.declared.moves.Side.TheVariants.{Sender, Receiver}
 use Rattle.cell_core.specs.declared.moves.Entry.{Entry}
 use Rattle.cell_core.specs.declared.moves.Joined.{Joined}
 use Rattle.cell_core.specs.declared.moves.CellMove.TheVariants.{Offer, Recall}
-use Rattle.cell_core.specs.CellEnds.{JoinFits}
-use Rattle.cell_core.specs.Histories.{entry}
+use Rattle.cell_core.specs.definitions.Ends.{JoinFits}
+use Rattle.cell_core.specs.definitions.Histories.{entry}
 use Rattle.channel_cell.specs.Tallies.{Tally, none_yet, counted, tally_from, tally, offer_if, offer_of}
 use Rattle.channel_cell.specs.definitions.Channels.{EndState, turned, join_in, joins_in, Recalled, Settles}
 use Rattle.channel_cell.specs.Calls.{RecalledIf, RecallsLast}

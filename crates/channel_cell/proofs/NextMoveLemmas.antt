@@ -10,8 +10,8 @@ use Rattle.cell_core.specs.declared.moves.Entry.{Entry}
 use Rattle.cell_core.specs.declared.moves.Joined.{Joined}
 use Rattle.cell_core.specs.declared.moves.CellMove.{CellMove}
 use Rattle.cell_core.specs.declared.moves.CellMove.TheVariants.{Offer, Recall}
-use Rattle.cell_core.specs.Cells.{stands, cell_reply, offer_reply, recall_reply, CanMove}
-use Rattle.cell_core.specs.Histories.{entry, cell_after, entries, side_of, if_side, IsCellHistory}
+use Rattle.cell_core.specs.definitions.Cells.{stands, cell_reply, offer_reply, recall_reply, CanMove}
+use Rattle.cell_core.specs.definitions.Histories.{entry, cell_after, entries, side_of, if_side, IsCellHistory}
 use Rattle.channel_cell.specs.Tallies.{Tally, none_yet, counted, tally_from, tally, packed, moves_in_word, counter_in, most, Counts}
 use Rattle.channel_cell.proofs.EndCounterLemmas.{Fits, FitsCell, fits, pushed}
 use Rattle.channel_cell.proofs.ControlWordLemmas.{packed-place, packed-receiver, packed-sender}

@@ -10,8 +10,8 @@ use Rattle.cell_core.specs.declared.moves.Entry.{Entry}
 use Rattle.cell_core.specs.declared.moves.Joined.{Joined}
 use Rattle.cell_core.specs.declared.moves.CellMove.{CellMove}
 use Rattle.cell_core.specs.declared.moves.CellMove.TheVariants.{Offer, Recall}
-use Rattle.cell_core.specs.Cells.{stands, after_own_offer, after_offer, offer_reply, recall_reply}
-use Rattle.cell_core.specs.Histories.{cell_after, entries, AllCanMove, IsCellHistory}
+use Rattle.cell_core.specs.definitions.Cells.{stands, after_own_offer, after_offer, offer_reply, recall_reply}
+use Rattle.cell_core.specs.definitions.Histories.{cell_after, entries, AllCanMove, IsCellHistory}
 use Rattle.channel_cell.specs.Tallies.{Tally, counted, tally}
 use Rattle.channel_cell.specs.Calls.{RecalledIf}
 use Rattle.channel_cell.proofs.EndCounterLemmas.{pushed}

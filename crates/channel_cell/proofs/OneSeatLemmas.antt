@@ -9,7 +9,7 @@ use Rattle.cell_core.specs.declared.moves.Side.TheVariants.{Sender, Receiver}
 use Rattle.cell_core.specs.declared.moves.Joined.{Joined}
 use Rattle.cell_core.specs.declared.moves.CellMove.{CellMove}
 use Rattle.cell_core.specs.declared.moves.CellMove.TheVariants.{Offer, Recall}
-use Rattle.cell_core.specs.Cells.{other, sent_value}
+use Rattle.cell_core.specs.definitions.Cells.{other, sent_value}
 use Rattle.cell_core.specs.CellEnds.{OfferFits}
 use Rattle.channel_cell.specs.declared.rule.Knows.{Knows}
 use Rattle.channel_cell.specs.declared.rule.View.TheVariants.{Own}

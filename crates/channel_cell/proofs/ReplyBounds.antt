@@ -8,9 +8,10 @@ use Rattle.cell_core.specs.declared.cell.Standing.{Standing}
 use Rattle.cell_core.specs.declared.cell.Standing.TheVariants.{Empty, Open, Taken}
 use Rattle.cell_core.specs.declared.moves.CellMove.{CellMove}
 use Rattle.cell_core.specs.declared.moves.CellMove.TheVariants.{Offer, Recall}
-use Rattle.cell_core.specs.Cells.{CellState, other, offer_reply, recall_reply, cell_reply}
-use Rattle.cell_core.specs.CellEnds.{JoinFits, OfferFits, StandingFits, CellFits, MoveFits}
-use Rattle.cell_core.specs.Histories.{cell_after}
+use Rattle.cell_core.specs.definitions.Cells.{CellState, other, offer_reply, recall_reply, cell_reply}
+use Rattle.cell_core.specs.definitions.Ends.{JoinFits}
+use Rattle.cell_core.specs.CellEnds.{OfferFits, StandingFits, CellFits, MoveFits}
+use Rattle.cell_core.specs.definitions.Histories.{cell_after}
 use Rattle.cell_core.proofs.CellLemmas.{step_fits}
 use Rattle.channel_cell.specs.Lanes.{AllFit}
 

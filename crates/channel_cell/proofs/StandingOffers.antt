@@ -9,8 +9,8 @@ use Rattle.cell_core.specs.declared.moves.Entry.{Entry}
 use Rattle.cell_core.specs.declared.moves.Joined.{Joined}
 use Rattle.cell_core.specs.declared.moves.CellMove.{CellMove}
 use Rattle.cell_core.specs.declared.moves.CellMove.TheVariants.{Offer, Recall}
-use Rattle.cell_core.specs.Cells.{after_own_offer, after_offer, offer_reply, recall_reply, cell_reply}
-use Rattle.cell_core.specs.Histories.{entry, cell_after, entries, IsCellHistory}
+use Rattle.cell_core.specs.definitions.Cells.{after_own_offer, after_offer, offer_reply, recall_reply, cell_reply}
+use Rattle.cell_core.specs.definitions.Histories.{entry, cell_after, entries, IsCellHistory}
 use Rattle.channel_cell.specs.Tallies.{Tally, counted, tally}
 use Rattle.channel_cell.specs.Lanes.{IsOwn}
 use Rattle.channel_cell.proofs.EndCounterLemmas.{pushed}

@@ -14,9 +14,10 @@ use Rattle.cell_core.specs.declared.moves.Entry.{Entry}
 use Rattle.cell_core.specs.declared.moves.Joined.{Joined}
 use Rattle.cell_core.specs.declared.moves.CellMove.{CellMove}
 use Rattle.cell_core.specs.declared.moves.CellMove.TheVariants.{Offer, Recall}
-use Rattle.cell_core.specs.Cells.{stands, other, sent_value, CanMove}
-use Rattle.cell_core.specs.CellEnds.{JoinFits, OfferFits, MoveFits}
-use Rattle.cell_core.specs.Histories.{entry, cell_after, side_of, IsCellHistory}
+use Rattle.cell_core.specs.definitions.Cells.{stands, other, sent_value, CanMove}
+use Rattle.cell_core.specs.definitions.Ends.{JoinFits}
+use Rattle.cell_core.specs.CellEnds.{OfferFits, MoveFits}
+use Rattle.cell_core.specs.definitions.Histories.{entry, cell_after, side_of, IsCellHistory}
 use Rattle.channel_cell.specs.declared.rule.Knows.{Knows}
 use Rattle.channel_cell.specs.declared.rule.View.{View}
 use Rattle.channel_cell.specs.declared.rule.View.TheVariants.{First, Own, Both}

@@ -10,9 +10,9 @@ use Rattle.cell_core.specs.declared.moves.Joined.{Joined}
 use Rattle.cell_core.specs.declared.moves.Entry.{Entry}
 use Rattle.cell_core.specs.declared.moves.CellMove.{CellMove}
 use Rattle.cell_core.specs.declared.moves.CellMove.TheVariants.{Recall}
-use Rattle.cell_core.specs.Histories.{entry, IsCellHistory}
-use Rattle.cell_core.specs.Cells.{sent_value}
-use Rattle.cell_core.specs.CellEnds.{JoinFits}
+use Rattle.cell_core.specs.definitions.Histories.{entry, IsCellHistory}
+use Rattle.cell_core.specs.definitions.Cells.{sent_value}
+use Rattle.cell_core.specs.definitions.Ends.{JoinFits}
 use Rattle.channel_cell.specs.definitions.Channels.{EndState, LegalFor}
 use Rattle.channel_cell.specs.declared.rule.Knows.{Knows}
 use Rattle.channel_cell.specs.declared.rule.View.{View}

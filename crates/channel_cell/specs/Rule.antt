@@ -11,9 +11,9 @@ use Rattle.cell_core.specs.declared.moves.Joined.{Joined}
 use Rattle.cell_core.specs.declared.moves.Entry.{Entry}
 use Rattle.cell_core.specs.declared.moves.CellMove.{CellMove}
 use Rattle.cell_core.specs.declared.moves.CellMove.TheVariants.{Offer, Recall}
-use Rattle.cell_core.specs.Cells.{other, sent_value}
-use Rattle.cell_core.specs.CellEnds.{JoinFits}
-use Rattle.cell_core.specs.Histories.{entry, cell_after, IsCellHistory}
+use Rattle.cell_core.specs.definitions.Cells.{other, sent_value}
+use Rattle.cell_core.specs.definitions.Ends.{JoinFits}
+use Rattle.cell_core.specs.definitions.Histories.{entry, cell_after, IsCellHistory}
 use Rattle.channel_cell.specs.definitions.Channels.{LegalFor}
 use Rattle.channel_cell.specs.declared.rule.Knows.{Knows}
 use Rattle.channel_cell.specs.declared.rule.View.{View}

@@ -6,8 +6,8 @@ use Rattle.cell_core.specs.declared.moves.Joined.{Joined}
 use Rattle.cell_core.specs.declared.moves.Entry.{Entry}
 use Rattle.cell_core.specs.declared.moves.CellMove.{CellMove}
 use Rattle.cell_core.specs.declared.moves.CellMove.TheVariants.{Offer, Recall}
-use Rattle.cell_core.specs.Histories.{IsCellHistory}
-use Rattle.cell_core.specs.Ends.{StandingOffer}
+use Rattle.cell_core.specs.definitions.Histories.{IsCellHistory}
+use Rattle.cell_core.specs.definitions.Ends.{StandingOffer}
 
 -- how many joins an end knows, its counter, whether it stands, the reply to its last move, the value and
 -- the stamp that it offered last, and whether its last move was a recall of a join

@@ -3,8 +3,8 @@ ghost use Rattle.std.specs.Option.{is_some};
 ghost use Rattle.java_values.specs.Kinds.{IsInRange};
 ghost use Rattle.cell_core.specs.declared.moves.Side.TheVariants as sides;
 ghost use Rattle.cell_core.specs.declared.moves.CellMove.TheVariants as make;
-ghost use Rattle.cell_core.specs.Ends.{JoinsOffer, JoinsStanding};
-ghost use Rattle.cell_core.specs.CellEnds.{JoinFits};
+ghost use Rattle.cell_core.specs.definitions.Ends.{JoinsOffer, JoinsStanding};
+ghost use Rattle.cell_core.specs.definitions.Ends.{JoinFits};
 ghost use Rattle.channel_cell.specs.definitions.Channels.{IsFresh, Makes, Settles, view_of};
 
 use crate::ends::{End, last_recalls, new_ends};

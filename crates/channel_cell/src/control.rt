@@ -2,7 +2,7 @@
 
 ghost use Rattle.std.specs.Prelude.{◌≡◌, ◌+◌, ◌*◌, ◌^◌, ◌<◌};
 ghost use Rattle.cell_core.specs.declared.moves.Side.TheVariants as sides;
-ghost use Rattle.cell_core.specs.Cells.{other};
+ghost use Rattle.cell_core.specs.definitions.Cells.{other};
 ghost use Rattle.channel_cell.specs.Tallies.{unit, counter_in, moves_limit};
 
 use cell_core::Side;

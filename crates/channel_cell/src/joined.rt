@@ -1,7 +1,7 @@
 // What one seat does with both lists.
 
 ghost use Rattle.std.specs.Prelude.{◌≡◌, ◌+◌, ◌<◌, true, length};
-ghost use Rattle.cell_core.specs.Histories.{IsCellHistory};
+ghost use Rattle.cell_core.specs.definitions.Histories.{IsCellHistory};
 ghost use Rattle.cell_core.specs.declared.moves.Side.TheVariants as sides;
 ghost use Rattle.cell_core.specs.declared.moves.CellMove.TheVariants as moves;
 ghost use Rattle.channel_cell.specs.Tallies.{most};

@@ -9,8 +9,8 @@ use Rattle.cell_core.specs.declared.moves.CellMove.{CellMove}
 use Rattle.cell_core.specs.declared.moves.CellMove.TheVariants.{Offer, Recall}
 use Rattle.cell_core.specs.declared.cell.Standing.{Standing}
 use Rattle.cell_core.specs.declared.cell.Standing.TheVariants.{Empty, Open, Taken}
-use Rattle.cell_core.specs.Cells.{CellState, cell_step, cell_reply, cell_of, other, standing_at, stands, recall_reply}
-use Rattle.cell_core.specs.Ends.{EndCall, Through}
+use Rattle.cell_core.specs.definitions.Cells.{CellState, cell_step, cell_reply, cell_of, other, standing_at, stands, recall_reply}
+use Rattle.cell_core.specs.definitions.Ends.{EndCall, Through}
 use Rattle.tick_log.specs.declared.history.JoinRow.{JoinRow}
 use Rattle.domain_core.specs.declared.step.ends_of.EndOf.{EndOf}
 use Rattle.domain_core.specs.definitions.step.EndCalls.{end_at, recall_of, recalls, offer_of, offers}

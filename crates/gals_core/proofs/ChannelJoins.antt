@@ -15,8 +15,8 @@ use Rattle.cell_core.specs.declared.moves.Side.{Side}
 use Rattle.cell_core.specs.declared.moves.Side.TheVariants.{Sender, Receiver}
 use Rattle.cell_core.specs.declared.moves.Joined.{Joined}
 use Rattle.cell_core.specs.declared.cell.Standing.TheVariants.{Open, Taken}
-use Rattle.cell_core.specs.Cells as cells
-use Rattle.cell_core.specs.Cells.{CellState, other, standing_at, sent_value}
+use Rattle.cell_core.specs.definitions.Cells as cells
+use Rattle.cell_core.specs.definitions.Cells.{CellState, other, standing_at, sent_value}
 use Rattle.cell_core.specs.CellEnds.{standing_offer}
 use Rattle.domain_core.specs.definitions.step.EndCalls.{end_at}
 use Rattle.domain_core.specs.step.Answers.{raised, raised_by}

@@ -9,7 +9,7 @@ use Rattle.cell_core.specs.declared.moves.Side.TheVariants.{Sender, Receiver}
 use Rattle.cell_core.specs.declared.moves.Joined.{Joined}
 use Rattle.cell_core.specs.declared.cell.Standing.{Standing}
 use Rattle.cell_core.specs.declared.cell.Standing.TheVariants.{Empty, Open, Taken}
-use Rattle.cell_core.specs.Cells.{CellState, cell_of, other, standing_at, stands, recall_reply, join_of, offer_reply, after_own_offer, after_offer}
+use Rattle.cell_core.specs.definitions.Cells.{CellState, cell_of, other, standing_at, stands, recall_reply, join_of, offer_reply, after_own_offer, after_offer}
 use Rattle.cell_core.specs.CellEnds.{standing_offer}
 use Rattle.domain_core.specs.declared.step.ends_of.EndOf.{EndOf}
 use Rattle.domain_core.specs.definitions.step.EndCalls.{end_at}

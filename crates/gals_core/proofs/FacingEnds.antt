@@ -11,9 +11,9 @@ use Rattle.cell_core.specs.declared.moves.Side.{Side}
 use Rattle.cell_core.specs.declared.moves.Side.TheVariants.{Sender, Receiver}
 use Rattle.cell_core.specs.declared.moves.Joined.{Joined}
 use Rattle.cell_core.specs.declared.cell.Standing.TheVariants.{Open, Taken}
-use Rattle.cell_core.specs.Cells.{CellState, other, standing_at, stands, recall_reply, join_of, sent_value}
+use Rattle.cell_core.specs.definitions.Cells.{CellState, other, standing_at, stands, recall_reply, join_of, sent_value}
 use Rattle.cell_core.specs.CellEnds.{standing_offer, offered, offered_value}
-use Rattle.cell_core.specs.Ends.{IsOwnValue}
+use Rattle.cell_core.specs.definitions.Ends.{IsOwnValue}
 use Rattle.domain_core.specs.definitions.step.EndCalls.{end_at}
 use Rattle.domain_core.specs.definitions.step.Domains.{DomainView, ends_of, state_of, tick_count_of}
 use Rattle.domain_core.specs.definitions.step.Steps.{Waits, WaitsAs, IsWaitingOffer}

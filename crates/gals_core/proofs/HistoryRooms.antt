@@ -2,7 +2,7 @@
 use Rattle.std.proofs.Common.{◌≡◌, ℕ, ◌+◌, ◌≤◌, List, [], ◌∷◌, length, Option, Some, None, sym, ap, ◌∙◌, subst, inl, inr, arith}
 use Rattle.std.proofs.lemmas.Bool.{cases_eq}
 use Rattle.cell_core.specs.declared.moves.Joined.{Joined}
-use Rattle.cell_core.specs.Ends.{EndCall, Through}
+use Rattle.cell_core.specs.definitions.Ends.{EndCall, Through}
 use Rattle.domain_core.specs.definitions.step.EndCalls.{end_at}
 use Rattle.gals_core.specs.Channels.{ChannelsState, Moves, history_in}
 use Rattle.gals_core.proofs.CallEffects.{new_rows}

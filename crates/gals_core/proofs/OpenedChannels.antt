@@ -11,7 +11,7 @@ use Rattle.kernel_rules.specs.definitions.LegalTick.{no_inputs}
 use Rattle.kernel_terms.specs.TableEntries.{channel_at, no_channel}
 use Rattle.java_values.specs.declared.kind.Kind.TheVariants as kind
 use Rattle.tick_log.specs.definitions.Containers.{HistoryState}
-use Rattle.cell_core.specs.Cells.{CellState, empty_cell}
+use Rattle.cell_core.specs.definitions.Cells.{CellState, empty_cell}
 use Rattle.cell_core.specs.CellEnds.{CellFits}
 use Rattle.domain_core.specs.declared.step.ends_of.EndOf.{EndOf}
 use Rattle.domain_core.specs.definitions.step.Domains.{DomainView, ends_of, ends_in}

@@ -9,9 +9,9 @@ use Rattle.cell_core.specs.declared.moves.Side.{Side}
 use Rattle.cell_core.specs.declared.moves.Joined.{Joined}
 use Rattle.cell_core.specs.declared.moves.CellMove.{CellMove}
 use Rattle.cell_core.specs.declared.moves.CellMove.TheVariants.{Offer, Recall}
-use Rattle.cell_core.specs.Cells.{CellState, cell_step, cell_reply, empty_cell, standing_at}
+use Rattle.cell_core.specs.definitions.Cells.{CellState, cell_step, cell_reply, empty_cell, standing_at}
 use Rattle.cell_core.specs.CellEnds.{standing_offer, end_of_cell, CellFits, MoveFits, OfferFits}
-use Rattle.cell_core.specs.Ends.{EndView, ChangesOwnEnd, ValueFits, JoinsOffer, JoinsStanding, IsOffer}
+use Rattle.cell_core.specs.definitions.Ends.{EndView, ChangesOwnEnd, ValueFits, JoinsOffer, JoinsStanding, IsOffer}
 use Rattle.cell_core.proofs.CellLemmas.{step_fits, recall_joins, offer_joins, offer_stands}
 use Rattle.domain_core.specs.declared.step.ends_of.EndOf.{EndOf}
 use Rattle.domain_core.specs.definitions.step.EndCalls.{end_at}

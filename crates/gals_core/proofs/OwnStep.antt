@@ -13,8 +13,8 @@ use Rattle.cell_core.specs.declared.moves.Side.TheVariants.{Sender, Receiver}
 use Rattle.cell_core.specs.declared.moves.Joined.{Joined}
 use Rattle.cell_core.specs.declared.cell.Standing.{Standing}
 use Rattle.cell_core.specs.declared.cell.Standing.TheVariants.{Empty, Open, Taken}
-use Rattle.cell_core.specs.Cells.{CellState, cell_of, other, standing_at, recall_reply, after_own_offer}
-use Rattle.cell_core.specs.Ends.{Through}
+use Rattle.cell_core.specs.definitions.Cells.{CellState, cell_of, other, standing_at, recall_reply, after_own_offer}
+use Rattle.cell_core.specs.definitions.Ends.{Through}
 use Rattle.domain_core.specs.declared.step.ends_of.EndOf.{EndOf}
 use Rattle.domain_core.specs.declared.step.outcome.Stepped.{Stepped}
 use Rattle.domain_core.specs.definitions.step.EndCalls.{end_at, stands_after, recalls, offers}

@@ -13,7 +13,7 @@ use Rattle.kernel_terms.specs.TableEntries.{channel_at, no_channel}
 use Rattle.tick_log.specs.definitions.Containers.{LogState, HistoryState}
 use Rattle.tick_log.specs.definitions.RunText.{interface_signals}
 use Rattle.tick_log.specs.definitions.Fits.{IsEntry, IsRow, most_ticks}
-use Rattle.cell_core.specs.Cells.{empty_cell}
+use Rattle.cell_core.specs.definitions.Cells.{empty_cell}
 use Rattle.domain_core.specs.definitions.step.Domains.{DomainView, ends_of, joins_at, tick_count_of, state_of}
 use Rattle.kernel_rules.specs.definitions.LegalTick.{no_inputs}
 use Rattle.gals_core.specs.Setups.{order_setup}

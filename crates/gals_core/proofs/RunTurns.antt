@@ -10,9 +10,9 @@ use Rattle.tick_log.specs.declared.history.JoinRow.{JoinRow}
 use Rattle.tick_log.specs.definitions.Runs.{RunState, log_of, history_of}
 use Rattle.cell_core.specs.declared.moves.Side.{Side}
 use Rattle.cell_core.specs.declared.moves.Side.TheVariants.{Sender, Receiver}
-use Rattle.cell_core.specs.Cells.{CellState, standing_at, empty_cell, recall_reply}
+use Rattle.cell_core.specs.definitions.Cells.{CellState, standing_at, empty_cell, recall_reply}
 use Rattle.cell_core.specs.CellEnds.{standing_offer}
-use Rattle.cell_core.specs.Ends.{Through}
+use Rattle.cell_core.specs.definitions.Ends.{Through}
 use Rattle.domain_core.specs.declared.step.ends_of.EndOf.{EndOf}
 use Rattle.domain_core.specs.declared.step.ends_of.EndJoin.{EndJoin}
 use Rattle.domain_core.specs.declared.step.outcome.Stepped.{Stepped}

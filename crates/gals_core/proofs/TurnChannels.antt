@@ -9,7 +9,7 @@ use Rattle.tick_log.specs.definitions.Runs.{Entry}
 use Rattle.cell_core.specs.declared.moves.Side.{Side}
 use Rattle.cell_core.specs.declared.moves.Side.TheVariants.{Sender, Receiver}
 use Rattle.cell_core.specs.declared.moves.Joined.{Joined}
-use Rattle.cell_core.specs.Cells.{other, standing_at}
+use Rattle.cell_core.specs.definitions.Cells.{other, standing_at}
 use Rattle.domain_core.specs.definitions.step.EndCalls.{end_at}
 use Rattle.domain_core.specs.step.Answers.{raised, raised_by}
 use Rattle.domain_core.specs.definitions.step.Domains.{DomainView, ends_of}

@@ -14,7 +14,7 @@ use Rattle.tick_log.specs.declared.history.JoinRow.{JoinRow}
 use Rattle.tick_log.specs.definitions.Runs.{Entry, RunState, log_of, tick_of, tick_count}
 use Rattle.cell_core.specs.declared.moves.Joined.{Joined}
 use Rattle.cell_core.specs.declared.cell.Standing.TheVariants.{Empty}
-use Rattle.cell_core.specs.Cells.{CellState, other, standing_at}
+use Rattle.cell_core.specs.definitions.Cells.{CellState, other, standing_at}
 use Rattle.cell_core.specs.CellEnds.{standing_offer}
 use Rattle.domain_core.specs.definitions.step.EndCalls.{end_at}
 use Rattle.domain_core.specs.step.Answers.{raised, raised_by}

@@ -7,9 +7,9 @@ use Rattle.cell_core.specs.declared.moves.Joined.{Joined}
 use Rattle.cell_core.specs.declared.moves.CellMove.{CellMove}
 use Rattle.cell_core.specs.declared.moves.CellMove.TheVariants.{Offer, Recall}
 use Rattle.std.specs.Global.{Global}
-use Rattle.cell_core.specs.Cells.{CellState, cell_step, cell_reply, empty_cell, standing_at}
+use Rattle.cell_core.specs.definitions.Cells.{CellState, cell_step, cell_reply, empty_cell, standing_at}
 use Rattle.cell_core.specs.CellEnds.{standing_offer, CellFits}
-use Rattle.cell_core.specs.Ends.{EndView}
+use Rattle.cell_core.specs.definitions.Ends.{EndView}
 use Rattle.domain_core.specs.declared.step.ends_of.EndOf.{EndOf}
 use Rattle.domain_core.specs.definitions.step.EndCalls.{end_at}
 use Rattle.domain_core.specs.definitions.runs.Stamps.{stamp_of_join}

@@ -4,7 +4,7 @@ use Rattle.kernel_terms.specs.declared.tables.ChannelInfo.{ChannelInfo}
 use Rattle.kernel_terms.specs.declared.system.System.{System}
 use Rattle.kernel_terms.specs.Systems.{tables_of, domains_of}
 use Rattle.tick_log.specs.definitions.Containers.{HistoryState}
-use Rattle.cell_core.specs.Cells.{empty_cell}
+use Rattle.cell_core.specs.definitions.Cells.{empty_cell}
 use Rattle.domain_core.specs.definitions.step.Domains.{DomainView, ends_of}
 use Rattle.gals_core.specs.declared.links.Link.{Link}
 use Rattle.gals_core.specs.Channels.{ChannelsState}

@@ -11,9 +11,9 @@ use Rattle.tick_log.specs.definitions.Runs.{Entry, RunState, log_of, history_of}
 use Rattle.cell_core.specs.declared.moves.Side.{Side}
 use Rattle.cell_core.specs.declared.moves.Side.TheVariants.{Sender, Receiver}
 use Rattle.cell_core.specs.declared.moves.Joined.{Joined}
-use Rattle.cell_core.specs.Cells.{CellState, standing_at, recall_reply}
+use Rattle.cell_core.specs.definitions.Cells.{CellState, standing_at, recall_reply}
 use Rattle.cell_core.specs.CellEnds.{standing_offer}
-use Rattle.cell_core.specs.Ends.{StandingOffer}
+use Rattle.cell_core.specs.definitions.Ends.{StandingOffer}
 use Rattle.domain_core.specs.declared.step.ends_of.EndOf.{EndOf}
 use Rattle.domain_core.specs.definitions.step.EndCalls.{end_at}
 use Rattle.domain_core.specs.step.Answers.{raised}

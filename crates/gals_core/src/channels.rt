@@ -2,7 +2,7 @@
 
 ghost use Rattle.std.specs.Prelude.{◌≡◌, ◌^◌, ◌<◌, ◌≤◌, ◌++◌, ℕ, length, IfSome, set, get_or, true, false, [], ◌∷◌};
 ghost use Rattle.cell_core.specs.declared.moves.CellMove.TheVariants as moves;
-ghost use Rattle.cell_core.specs.Cells.{cell_step, cell_reply, empty_cell, standing_at, stands};
+ghost use Rattle.cell_core.specs.definitions.Cells.{cell_step, cell_reply, empty_cell, standing_at, stands};
 ghost use Rattle.gals_core.specs.Channels.{link_at, with_reply, no_history, lists_in};
 ghost use Rattle.domain_core.specs.definitions.step.EndCalls.{end_at};
 ghost use Rattle.domain_core.specs.step.JoinLists.{StampsFit};

@@ -2,7 +2,7 @@
 
 ghost use Rattle.std.specs.Prelude.{◌≡◌, ◌+◌, ◌^◌, ◌<◌, ◌≤◌, ℕ, length, get_or, map, replicate, IfOk, All};
 ghost use Rattle.tick_log.specs.definitions.Fits.{most_ticks};
-ghost use Rattle.cell_core.specs.Cells.{empty_cell};
+ghost use Rattle.cell_core.specs.definitions.Cells.{empty_cell};
 ghost use Rattle.domain_core.specs.definitions.step.Domains.{DomainView, ends_in, tick_count_of};
 ghost use Rattle.gals_core.specs.Channels.{lists_in};
 ghost use Rattle.gals_core.specs.Opening.{opened_history, IsWithin, Reserves};

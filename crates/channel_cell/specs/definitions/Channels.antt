@@ -9,9 +9,9 @@ use Rattle.cell_core.specs.declared.moves.Joined.{Joined}
 use Rattle.cell_core.specs.declared.moves.Entry.{Entry}
 use Rattle.cell_core.specs.declared.moves.CellMove.{CellMove}
 use Rattle.cell_core.specs.declared.moves.CellMove.TheVariants.{Offer, Recall}
-use Rattle.cell_core.specs.Histories.{entry, IsCellHistory}
-use Rattle.cell_core.specs.Ends.{StandingOffer, EndView}
-use Rattle.cell_core.specs.CellEnds.{JoinFits}
+use Rattle.cell_core.specs.definitions.Histories.{entry, IsCellHistory}
+use Rattle.cell_core.specs.definitions.Ends.{StandingOffer, EndView}
+use Rattle.cell_core.specs.definitions.Ends.{JoinFits}
 
 -- An end: its channel, its side, the kind of the channel, its own moves with their places and replies, its
 -- offer that stands, if one does, and how many more moves it may make.

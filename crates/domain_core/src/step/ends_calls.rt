@@ -1,7 +1,7 @@
 // The calls that a step makes at the ends of its domain.
 
 ghost use Rattle.std.specs.Prelude.{◌≡◌, ◌≢◌, ◌^◌, ◌<◌, ◌≤◌, ℕ, length, get_or, true, false, None, IsSome, IsNone, IfSome};
-ghost use Rattle.cell_core.specs.Ends.{Through, ValueFits};
+ghost use Rattle.cell_core.specs.definitions.Ends.{Through, ValueFits};
 ghost use Rattle.domain_core.specs.definitions.step.EndCalls.{end_at, recall_of, offer_of, CanRecall, IsRecalled, RecallsAll, CanOffer, IsOffered, OffersAll};
 
 use crate::step::ends_of::EndOf;

@@ -8,8 +8,8 @@ use Rattle.cell_core.specs.declared.moves.CellMove.TheVariants.{Offer as OfferMo
 use Rattle.cell_core.specs.declared.moves.Entry.{Entry}
 use Rattle.cell_core.specs.declared.cell.Standing.{Standing}
 use Rattle.cell_core.specs.declared.cell.Standing.TheVariants.{Empty, Open, Taken}
-use Rattle.cell_core.specs.Cells.{cell_step, cell_reply, CanMove, stands}
-use Rattle.cell_core.specs.Histories.{Runs, TakesNext, AreByPlace, side_of}
+use Rattle.cell_core.specs.definitions.Cells.{cell_step, cell_reply, CanMove, stands}
+use Rattle.cell_core.specs.definitions.Histories.{Runs, TakesNext, AreByPlace, side_of}
 use Rattle.cell_core.proofs.HistoryLemmas.{by_place-history}
 use Rattle.tick_log.specs.definitions.Runs.{RunState, tick_count}
 use Rattle.domain_core.specs.definitions.runs.Systems.{Setup, sender_of, receiver_of}

@@ -7,8 +7,8 @@ use Rattle.cell_core.specs.declared.moves.Side.TheVariants.{Sender, Receiver}
 use Rattle.cell_core.specs.declared.moves.Joined.{Joined}
 use Rattle.cell_core.specs.declared.moves.CellMove.TheVariants.{Offer as OfferMove}
 use Rattle.cell_core.specs.declared.cell.Standing.TheVariants.{Empty}
-use Rattle.cell_core.specs.Cells.{CellState, empty_cell, standing_at, recall_reply}
-use Rattle.cell_core.specs.Histories.{Runs}
+use Rattle.cell_core.specs.definitions.Cells.{CellState, empty_cell, standing_at, recall_reply}
+use Rattle.cell_core.specs.definitions.Histories.{Runs}
 use Rattle.tick_log.specs.definitions.Runs.{Entry, RunState, log_of, tick_count}
 use Rattle.kernel_terms.specs.Marks.{Mark}
 use Rattle.tick_log.specs.declared.history.JoinRow.{JoinRow}

@@ -4,8 +4,8 @@ use Rattle.std.specs.Prelude.{Option, Some, None, is_some}
 use Rattle.kernel_terms.specs.Statements.{SendWaits, ReceiveWaits}
 use Rattle.cell_core.specs.declared.moves.Side.TheVariants.{Sender, Receiver}
 use Rattle.cell_core.specs.declared.moves.Joined.{Joined}
-use Rattle.cell_core.specs.Cells.{empty_cell}
-use Rattle.cell_core.specs.Histories.{Runs}
+use Rattle.cell_core.specs.definitions.Cells.{empty_cell}
+use Rattle.cell_core.specs.definitions.Histories.{Runs}
 use Rattle.kernel_rules.specs.definitions.TickRule.{quiet, ends_with}
 use Rattle.kernel_rules.specs.definitions.LegalTick.{DomainState, IsLegalTick}
 use Rattle.tick_log.specs.definitions.Runs.{log_of, tick_of, tick_count}

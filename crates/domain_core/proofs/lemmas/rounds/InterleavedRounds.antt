@@ -6,8 +6,8 @@ use Rattle.cell_core.specs.declared.moves.Side.{Side}
 use Rattle.cell_core.specs.declared.moves.Side.TheVariants.{Sender, Receiver}
 use Rattle.cell_core.specs.declared.moves.Joined.{Joined}
 use Rattle.cell_core.specs.declared.moves.Entry.{Entry}
-use Rattle.cell_core.specs.Cells.{empty_cell}
-use Rattle.cell_core.specs.Histories.{Runs, side_of, TakesNext, AreByPlace}
+use Rattle.cell_core.specs.definitions.Cells.{empty_cell}
+use Rattle.cell_core.specs.definitions.Histories.{Runs, side_of, TakesNext, AreByPlace}
 use Rattle.cell_core.proofs.HistoryLemmas.{history-by_place}
 use Rattle.tick_log.specs.definitions.Runs.{RunState, log_of, tick_count}
 use Rattle.domain_core.specs.definitions.runs.Systems.{Setup, sender_of, receiver_of, IsSystem}

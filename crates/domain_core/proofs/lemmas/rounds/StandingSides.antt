@@ -7,8 +7,8 @@ use Rattle.cell_core.specs.declared.moves.CellMove.{CellMove}
 use Rattle.cell_core.specs.declared.moves.CellMove.TheVariants.{Offer, Recall}
 use Rattle.cell_core.specs.declared.cell.Standing.{Standing}
 use Rattle.cell_core.specs.declared.cell.Standing.TheVariants.{Empty, Open, Taken}
-use Rattle.cell_core.specs.Cells.{CellState, cell_step, cell_reply, CanMove, stands, standing_at, recall_reply}
-use Rattle.cell_core.specs.Histories.{Runs, side_of}
+use Rattle.cell_core.specs.definitions.Cells.{CellState, cell_step, cell_reply, CanMove, stands, standing_at, recall_reply}
+use Rattle.cell_core.specs.definitions.Histories.{Runs, side_of}
 use Rattle.domain_core.specs.definitions.rounds.Rounds.{MoveMade, recall_move}
 use Rattle.domain_core.specs.definitions.rounds.Interleavings.{placed, if_of, moves_of}
 

@@ -3,7 +3,7 @@ use Rattle.std.proofs.Common.{ℕ, ◌<◌, ◌^◌, ℤ, Option, Some, None, re
 use Rattle.std.specs.Prelude.{IfSome}
 use Rattle.std.proofs.lemmas.Option.{none-some}
 use Rattle.cell_core.specs.declared.moves.Joined.{Joined}
-use Rattle.cell_core.specs.Ends.{EndView, JoinsOffer}
+use Rattle.cell_core.specs.definitions.Ends.{EndView, JoinsOffer}
 use Rattle.domain_core.specs.definitions.step.EndCalls.{IsOffered}
 use Rattle.domain_core.specs.step.JoinLists.{StampsFit}
 

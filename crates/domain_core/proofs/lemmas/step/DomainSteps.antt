@@ -19,7 +19,7 @@ use Rattle.tick_log.specs.definitions.RunText.{interface_signals}
 use Rattle.tick_log.specs.definitions.Fits.{AreStatuses}
 use Rattle.cell_core.specs.declared.moves.Joined.{Joined}
 use Rattle.cell_core.specs.declared.moves.CellMove.{CellMove}
-use Rattle.cell_core.specs.Ends.{EndView, Through, ValueFits}
+use Rattle.cell_core.specs.definitions.Ends.{EndView, Through, ValueFits}
 use Rattle.cell_core.proofs.CallLemmas.{Through-append}
 use Rattle.domain_core.specs.declared.step.ends_of.EndOf.{EndOf}
 use Rattle.domain_core.specs.declared.step.ends_of.EndJoin.{EndJoin}

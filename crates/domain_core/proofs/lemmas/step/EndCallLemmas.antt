@@ -6,7 +6,7 @@ use Rattle.std.proofs.lemmas.List.{get_or-set_same, get_or-set_other}
 use Rattle.cell_core.specs.declared.moves.Side.{Side}
 use Rattle.cell_core.specs.declared.moves.Joined.{Joined}
 use Rattle.cell_core.specs.declared.moves.CellMove.{CellMove}
-use Rattle.cell_core.specs.Ends.{EndView, Through}
+use Rattle.cell_core.specs.definitions.Ends.{EndView, Through}
 use Rattle.cell_core.proofs.CallLemmas.{Through-append}
 use Rattle.domain_core.specs.declared.step.ends_of.EndOf.{EndOf}
 use Rattle.domain_core.specs.definitions.step.EndCalls.{end_at, recall_of, recalls, offer_of, offers, IsRecalled, IsOffered, RecallsAll, OffersAll}

@@ -5,10 +5,10 @@ use Rattle.cell_core.specs.declared.moves.Side.TheVariants.{Sender, Receiver}
 use Rattle.cell_core.specs.declared.moves.Joined.{Joined}
 use Rattle.cell_core.specs.declared.moves.CellMove.TheVariants.{Offer as OfferMove, Recall as RecallMove}
 use Rattle.cell_core.specs.declared.moves.Entry.{Entry as CellEntry}
-use Rattle.cell_core.specs.Cells.{empty_cell}
+use Rattle.cell_core.specs.definitions.Cells.{empty_cell}
 use Rattle.kernel_terms.specs.Marks.{Mark}
 use Rattle.tick_log.specs.declared.history.JoinRow.{JoinRow}
-use Rattle.cell_core.specs.Histories.{Runs, side_of}
+use Rattle.cell_core.specs.definitions.Histories.{Runs, side_of}
 use Rattle.tick_log.specs.definitions.Runs.{Entry, RunState, log_of, tick_count}
 use Rattle.domain_core.specs.definitions.runs.Systems.{Setup, sender_of, receiver_of, domain_count, channel_count}
 use Rattle.domain_core.specs.definitions.rounds.Rounds.{Offer, Rounds, IsRounds, IsOpenRounds, with_recalls, MoveMade, last_recall, RowsAreFound, RoundsFit}

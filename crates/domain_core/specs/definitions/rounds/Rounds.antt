@@ -6,7 +6,7 @@ use Rattle.cell_core.specs.declared.moves.Joined.{Joined}
 use Rattle.cell_core.specs.declared.moves.CellMove.{CellMove}
 use Rattle.cell_core.specs.declared.moves.CellMove.TheVariants.{Offer as OfferMove, Recall as RecallMove}
 use Rattle.cell_core.specs.declared.moves.Entry.{Entry as CellEntry}
-use Rattle.cell_core.specs.Histories.{IsCellHistory}
+use Rattle.cell_core.specs.definitions.Histories.{IsCellHistory}
 use Rattle.kernel_rules.specs.definitions.Signals.{put_at}
 use Rattle.kernel_rules.specs.definitions.LegalTick.{DomainState, IsLegalTick}
 use Rattle.kernel_terms.specs.Marks.{Mark}

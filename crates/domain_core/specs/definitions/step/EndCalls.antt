@@ -5,7 +5,7 @@ use Rattle.cell_core.specs.declared.moves.Side.TheVariants.{Receiver}
 use Rattle.cell_core.specs.declared.moves.Joined.{Joined}
 use Rattle.cell_core.specs.declared.moves.CellMove.{CellMove}
 use Rattle.cell_core.specs.declared.moves.CellMove.TheVariants.{Offer, Recall}
-use Rattle.cell_core.specs.Ends.{EndView, EndCall, Through, ValueFits, JoinsOffer, JoinsStanding, IsOffer}
+use Rattle.cell_core.specs.definitions.Ends.{EndView, EndCall, Through, ValueFits, JoinsOffer, JoinsStanding, IsOffer}
 use Rattle.domain_core.specs.declared.step.ends_of.EndOf.{EndOf}
 
 -- the end of a number

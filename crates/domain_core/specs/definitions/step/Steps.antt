@@ -13,7 +13,7 @@ use Rattle.cell_core.specs.declared.moves.Side.{Side}
 use Rattle.cell_core.specs.declared.moves.Side.TheVariants.{Sender, Receiver}
 use Rattle.cell_core.specs.declared.moves.Joined.{Joined}
 use Rattle.cell_core.specs.declared.moves.CellMove.{CellMove}
-use Rattle.cell_core.specs.Ends.{StandingOffer, EndView, Through, IsOffer}
+use Rattle.cell_core.specs.definitions.Ends.{StandingOffer, EndView, Through, IsOffer}
 use Rattle.domain_core.specs.declared.step.ends_of.EndOf.{EndOf}
 use Rattle.domain_core.specs.declared.step.ends_of.EndJoin.{EndJoin}
 use Rattle.domain_core.specs.declared.step.outcome.Stepped.{Stepped}

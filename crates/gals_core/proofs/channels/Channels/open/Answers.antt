@@ -3,7 +3,7 @@ use Rattle.kernel_terms.specs.Systems.{tables_of}
 use Rattle.kernel_terms.specs.declared.tables.Tables.{Tables}
 use Rattle.kernel_terms.specs.declared.tables.ChannelInfo.{ChannelInfo}
 use Rattle.std.specs.Prelude.{All, List}
-use Rattle.cell_core.specs.Cells.{empty_cell}
+use Rattle.cell_core.specs.definitions.Cells.{empty_cell}
 use Rattle.gals_core.specs.Channels.{lists_in}
 use Rattle.gals_core.specs.Opening.{IsWithin, link_of, opened_history}
 use Rattle.gals_core.proofs.OpenedChannels.{all_within, are_channels, are_opened}

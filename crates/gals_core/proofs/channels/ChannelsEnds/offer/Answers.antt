@@ -1,7 +1,7 @@
 use Rattle.std.proofs.Common.{◌≡◌, subst, sym, get_or, set, length, [], ◌<◌, w64}
 use Rattle.std.proofs.lemmas.Int.{to_z-of_z}
 use Rattle.cell_core.specs.declared.moves.CellMove.TheVariants as moves
-use Rattle.cell_core.specs.Cells.{cell_step, cell_reply, empty_cell}
+use Rattle.cell_core.specs.definitions.Cells.{cell_step, cell_reply, empty_cell}
 use Rattle.gals_core.specs.Channels.{ChannelsState, lists_in}
 use Rattle.gals_core.proofs.OwnCalls.{offer_moves, offer_own, offer_keeps, offer_joined, offer_left}
 use Rattle.gals_core.proofs.channels.ChannelsEnds.offer.Goals as goal

@@ -38,6 +38,12 @@ abbrev pub IsOwnValue : Side → ℤ → ℤ → Type 0
 IsOwnValue Sender offered value = value ≡ offered
 IsOwnValue Receiver offered value = Unit {0}
 
+-- a join has a value in the kind and two stamps below 2^62
+pub record JoinFits (kind : Kind) (j : Joined) : Type 0 where
+  pub value : IsInRange kind j.value
+  pub mine : j.mine < 2 ^ 62
+  pub theirs : j.theirs < 2 ^ 62
+
 -- the join answers an offer of this end with this value and stamp
 pub record JoinsOffer (e : EndView) (value : ℤ) (stamp : ℕ) (j : Joined) : Type 0 where
   pub mine : j.mine ≡ stamp

@@ -6,7 +6,7 @@ use Rattle.cell_core.specs.declared.moves.Joined.{Joined}
 use Rattle.cell_core.specs.declared.moves.CellMove.{CellMove}
 use Rattle.cell_core.specs.declared.moves.CellMove.TheVariants.{Offer, Recall}
 use Rattle.cell_core.specs.declared.moves.Entry.{Entry}
-use Rattle.cell_core.specs.Cells.{CellState, empty_cell, cell_step, cell_reply, CanMove}
+use Rattle.cell_core.specs.definitions.Cells.{CellState, empty_cell, cell_step, cell_reply, CanMove}
 
 abbrev pub entry : ℕ → CellMove → Option Joined → Entry
 entry n m r = record { place = n; what = m; reply = r }
