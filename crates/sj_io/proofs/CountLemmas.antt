@@ -10,8 +10,9 @@ use Rattle.std.proofs.lemmas.Slice.Eq.{bytes_eq-Decides}
 use Rattle.std.specs.List.{position_or_len}
 use Rattle.std.specs.Prelude.{Some, None, position}
 use Rattle.std.specs.Str.{bytes_eq}
-use Rattle.sj_io.specs.Files.{IsKnown}
-use Rattle.sj_io.specs.Counts.{count_of, IsRaised, Raises}
+use Rattle.sj_io.specs.definitions.Files.{IsKnown}
+use Rattle.sj_io.specs.definitions.Counts.{count_of}
+use Rattle.sj_io.specs.Raised.{IsRaised, Raises}
 
 bool_cases : (b : Bool) → (b ≡ true) ⊎ (b ≡ false)
 bool_cases true = inl refl

@@ -1,4 +1,4 @@
 pub mod Pieces
 pub mod CountLemmas
 pub mod MemoryLemmas
-pub mod Gathering
+pub mod GatheringLemmas

@@ -5,7 +5,7 @@ use Rattle.std.proofs.lemmas.List.Quantifiers.{position-Some}
 use Rattle.std.specs.Str.{bytes_eq}
 use Rattle.std.specs.Prelude.{Option, Some, None, IfSome, is_none, string_bytes, position}
 use Rattle.sj_io.specs.declared.memory.MemFile.{MemFile}
-use Rattle.sj_io.specs.Memory.{file_names, bytes_of}
+use Rattle.sj_io.specs.definitions.Memory.{file_names, bytes_of}
 use Rattle.sj_io.proofs.CountLemmas.{IsAbsent, nowhere}
 
 bytes_set : (files : List MemFile) (i : ℕ) (file d : MemFile) (name : List ℕ) → string_bytes file.name ≡ string_bytes (get_or files i d).name → file.bytes.items ≡ (get_or files i d).bytes.items → bytes_of (set files i file) name ≡ bytes_of files name

@@ -3,8 +3,8 @@ use Rattle.std.proofs.Common.{◌≡◌, ℕ, zero, suc, ◌+◌, ◌≤◌, Lis
 use Rattle.std.proofs.lemmas.Bool.{cases_lt}
 use Rattle.std.proofs.Math.Seq.{take-add}
 use Rattle.std.specs.Prelude.{Option, Some, None}
-use Rattle.sj_io.specs.Files.{ReadsAt}
-use Rattle.sj_io.specs.Sinks.{TakesMore}
+use Rattle.sj_io.specs.definitions.Files.{ReadsAt}
+use Rattle.sj_io.specs.definitions.Sinks.{TakesMore}
 
 take_more : (i n : ℕ) (xs : List ℕ) → take i xs ++ take n (drop i xs) ≡ take (i + n) xs
 take_more i n xs = sym (take-add i n xs)

@@ -1,7 +1,3 @@
-pub mod Causes
-pub mod Counts
-pub mod Files
-pub mod Sinks
-pub mod Gathers
-pub mod Memory
-pub mod Host
+pub mod definitions
+pub mod Raised
+pub mod WriteAnswers

@@ -1,6 +1,6 @@
 ghost use Rattle.std.specs.Prelude.{◌≡◌, ◌≤◌, List, ℕ, Option, length, IfOk, IfSome, OnOk, OnErr};
-ghost use Rattle.sj_io.specs.Causes.{Rose};
-ghost use Rattle.sj_io.specs.Files.{ReadsAt, CountsApart, CountsStay};
+ghost use Rattle.sj_io.specs.definitions.Causes.{Rose};
+ghost use Rattle.sj_io.specs.definitions.Files.{ReadsAt, CountsApart, CountsStay};
 
 /// A call of the outside failed. Its count of faults says so too.
 #[derive(Clone, Copy, Debug, PartialEq, Eq)]

@@ -1,7 +1,7 @@
 // Bytes that are gathered for a sink.
 
 ghost use Rattle.std.specs.Prelude.{◌≡◌, ◌+◌, ◌-◌, ◌<◌, ◌≤◌, ◌++◌, [], length, take, min, OnOk, OnErr};
-ghost use Rattle.sj_io.specs.Causes.{Rose};
+ghost use Rattle.sj_io.specs.definitions.Causes.{Rose};
 
 use crate::sink::Sink;
 use crate::whole::WriteError;
@@ -19,7 +19,7 @@ pub struct Gathered {
 }
 
 impl Gathered {
-    ghost use Rattle.sj_io.specs.Gathers.{waiting, Gathers, GathersPrefix};
+    ghost use Rattle.sj_io.specs.definitions.Gathers.{waiting, Gathers, GathersPrefix};
 
     /// No byte waits.
     pub fn new() -> Gathered
@@ -45,7 +45,7 @@ impl Gathered {
     }
 
     // Has the sink take all that waits, where the room is used up.
-    #[tactic(auto, using(crate::proofs::Gathering::gathers_nothing))]
+    #[tactic(auto, using(crate::proofs::GatheringLemmas::gathers_nothing))]
     fn make_room<K: Sink>(&mut self, out: &mut K) -> Result<(), WriteError>
         ensures room { OnOk result (self.new.to < 4096) }
         ensures hands { Gathers (K.taken out.old) (K.taken out.new) (waiting self.old) (waiting self.new) [] }
@@ -61,7 +61,7 @@ impl Gathered {
 
     /// Puts the bytes behind those that wait. Where the room is used up, the sink takes what waits.
     /// After a `Fault` a prefix of the bytes was put, and no byte is lost.
-    #[tactic(auto, using(crate::proofs::Gathering::put_steps))]
+    #[tactic(auto, using(crate::proofs::GatheringLemmas::put_steps))]
     pub fn put<K: Sink>(&mut self, out: &mut K, bytes: &[u8]) -> Result<(), WriteError>
         ensures ok { OnOk result (Gathers (K.taken out.old) (K.taken out.new) (waiting self.old) (waiting self.new) bytes.now) }
         ensures puts_prefix { OnErr result (GathersPrefix (K.taken out.old) (K.taken out.new) (waiting self.old) (waiting self.new) bytes.now) }
@@ -79,7 +79,7 @@ impl Gathered {
     }
 
     /// Has the sink take all that waits. After a `Fault` it has taken a prefix of it, and the rest waits.
-    #[tactic(auto, using(crate::proofs::Gathering::flush_steps))]
+    #[tactic(auto, using(crate::proofs::GatheringLemmas::flush_steps))]
     pub fn flush<K: Sink>(&mut self, out: &mut K) -> Result<(), WriteError>
         ensures room { OnOk result (self.new.to ≡ 0) }
         ensures empty { OnOk result (waiting self.new ≡ []) }

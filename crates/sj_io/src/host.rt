@@ -2,8 +2,9 @@
 
 ghost use Rattle.std.specs.Prelude.{◌≡◌, List, ℕ, ◌+◌, ◌-◌, ◌^◌, ◌≤◌, ◌<◌, length, vec_len, min, IfOk, IfSome, Some, None, position, string_bytes};
 ghost use Rattle.std.specs.Str.{bytes_eq};
-ghost use Rattle.sj_io.specs.Counts.{IsRaised, Raises};
-ghost use Rattle.sj_io.specs.Host.{host_names, host_counts, host_count, host_known, host_faults, print_faults, IsCount};
+ghost use Rattle.sj_io.specs.Raised.{IsRaised, Raises};
+ghost use Rattle.sj_io.specs.definitions.Host.{host_names, host_counts, host_count, host_known, host_faults, print_faults};
+ghost use Rattle.sj_io.specs.WriteAnswers.{IsCount};
 
 use crate::files::{Failed, Files};
 use crate::sink::Sink;

@@ -2,7 +2,7 @@
 
 ghost use Rattle.std.specs.Prelude.{◌≡◌, List, ℕ, ◌++◌, ◌+◌, ◌-◌, ◌^◌, ◌≤◌, ◌<◌, [], length, take, vec_len, min, Some, position, string_bytes};
 ghost use Rattle.std.specs.Str.{bytes_eq};
-ghost use Rattle.sj_io.specs.Files.{ReadsAt};
+ghost use Rattle.sj_io.specs.definitions.Files.{ReadsAt};
 
 use crate::files::{Failed, Files};
 use crate::sink::Sink;
@@ -63,8 +63,8 @@ fn file_at(files: &[MemFile], name: &str) -> Option<usize>
 }
 
 impl MemFiles {
-    ghost use Rattle.sj_io.specs.Memory.{file_names, file_counts, file_count, bytes_of, mem_known, mem_told, mem_faults, IsSetUp};
-    ghost use Rattle.sj_io.specs.Counts.{IsRaised, Raises};
+    ghost use Rattle.sj_io.specs.definitions.Memory.{file_names, file_counts, file_count, bytes_of, mem_known, mem_told, mem_faults, IsSetUp};
+    ghost use Rattle.sj_io.specs.Raised.{IsRaised, Raises};
 
     /// Files whose reads give at most `piece` bytes, at least 1, and of whose calls those numbered in
     /// `fail`, from 1, fail. The files bring their own counts of faults.
@@ -112,9 +112,9 @@ impl MemFiles {
 
 impl Files for MemFiles {
     ghost use Rattle.std.specs.Prelude.{◌≡◌, List, ℕ, ◌-◌, ◌≤◌, length, min, IfOk, IfSome, OnOk, OnErr, is_err};
-    ghost use Rattle.sj_io.specs.Causes.{Rose};
-    ghost use Rattle.sj_io.specs.Files.{ReadsAt, CountsApart, CountsStay};
-    ghost use Rattle.sj_io.specs.Memory.{mem_known, mem_told, mem_faults, mem_piece, mem_fails, CallsOn};
+    ghost use Rattle.sj_io.specs.definitions.Causes.{Rose};
+    ghost use Rattle.sj_io.specs.definitions.Files.{ReadsAt, CountsApart, CountsStay};
+    ghost use Rattle.sj_io.specs.definitions.Memory.{mem_known, mem_told, mem_faults, mem_piece, mem_fails, CallsOn};
 
     ghost known = { mem_known };
 
@@ -150,7 +150,7 @@ impl Files for MemFiles {
 }
 
 impl MemSink {
-    ghost use Rattle.sj_io.specs.Memory.{sink_bytes, sink_faults, IsSinkSetUp};
+    ghost use Rattle.sj_io.specs.definitions.Memory.{sink_bytes, sink_faults, IsSinkSetUp};
 
     /// A sink that has taken nothing. One write takes at most `piece` bytes, at least 1, and all of
     /// them as many as `space` has. The calls numbered in `fail`, from 1, fail.
@@ -187,9 +187,9 @@ impl MemSink {
 
 impl Sink for MemSink {
     ghost use Rattle.std.specs.Prelude.{◌≡◌, ◌≤◌, Some, length, min, IfOk, OnErr, is_err};
-    ghost use Rattle.sj_io.specs.Causes.{Rose};
-    ghost use Rattle.sj_io.specs.Sinks.{Takes};
-    ghost use Rattle.sj_io.specs.Memory.{sink_bytes, sink_faults, sink_piece, sink_room, sink_fails, SinkCallsOn};
+    ghost use Rattle.sj_io.specs.definitions.Causes.{Rose};
+    ghost use Rattle.sj_io.specs.definitions.Sinks.{Takes};
+    ghost use Rattle.sj_io.specs.definitions.Memory.{sink_bytes, sink_faults, sink_piece, sink_room, sink_fails, SinkCallsOn};
 
     ghost taken = { λ s. Some (sink_bytes s) };
 

@@ -1,6 +1,6 @@
 ghost use Rattle.std.specs.Prelude.{◌≡◌, ◌≤◌, List, ℕ, Option, length, IfOk, OnErr};
-ghost use Rattle.sj_io.specs.Causes.{Rose};
-ghost use Rattle.sj_io.specs.Sinks.{Takes};
+ghost use Rattle.sj_io.specs.definitions.Causes.{Rose};
+ghost use Rattle.sj_io.specs.definitions.Sinks.{Takes};
 
 use crate::files::Failed;
 

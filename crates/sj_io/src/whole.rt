@@ -1,9 +1,9 @@
 // Whole files and whole texts, over any files and any sink.
 
 ghost use Rattle.std.specs.Prelude.{◌≡◌, ◌+◌, ◌≤◌, ◌<◌, length, take, IfOk, IfSome, OnOk, OnErr, IsErrOf, vec_len};
-ghost use Rattle.sj_io.specs.Causes.{Rose};
-ghost use Rattle.sj_io.specs.Files.{CountsStay, Keeps};
-ghost use Rattle.sj_io.specs.Sinks.{TakesMore, TakesPrefix};
+ghost use Rattle.sj_io.specs.definitions.Causes.{Rose};
+ghost use Rattle.sj_io.specs.definitions.Files.{CountsStay, Keeps};
+ghost use Rattle.sj_io.specs.definitions.Sinks.{TakesMore, TakesPrefix};
 
 use crate::files::Files;
 use crate::sink::Sink;

@@ -2,9 +2,9 @@
 use Rattle.std.proofs.Common.{ℕ, List, refl, ap}
 use Rattle.std.specs.Prelude.{Option, Some, None, IfSome, codes}
 use Rattle.kernel_terms.specs.Systems.{tables_of}
-use Rattle.sj_io.specs.Causes.{Rose}
-use Rattle.sj_io.specs.Files.{CountsStay}
-use Rattle.sj_io.specs.Sinks.{TakesMore, TakesPrefix}
+use Rattle.sj_io.specs.definitions.Causes.{Rose}
+use Rattle.sj_io.specs.definitions.Files.{CountsStay}
+use Rattle.sj_io.specs.definitions.Sinks.{TakesMore, TakesPrefix}
 use Rattle.tick_log.specs.definitions.RunText.{run_text}
 use Rattle.tick_log.specs.definitions.Holding.{run_state}
 use Rattle.sj_main.specs.declared.commands.Turns.{Turns}

@@ -2,8 +2,8 @@
 use Rattle.std.specs.Prelude.{◌≡◌, ℕ, ◌<◌, ◌≤◌, List, length, Option, IfSome}
 use Rattle.kernel_terms.specs.declared.system.System.{System}
 use Rattle.kernel_terms.specs.Systems.{tables_of, domains_of}
-use Rattle.sj_io.specs.Causes.{Rose}
-use Rattle.sj_io.specs.Sinks.{TakesMore, TakesPrefix}
+use Rattle.sj_io.specs.definitions.Causes.{Rose}
+use Rattle.sj_io.specs.definitions.Sinks.{TakesMore, TakesPrefix}
 use Rattle.tick_log.specs.definitions.Runs.{RunState}
 use Rattle.tick_log.specs.definitions.Holding.{run_state}
 use Rattle.kernel_rules.specs.definitions.LegalTick.{no_inputs}

@@ -2,8 +2,8 @@
 
 ghost use Rattle.std.specs.Prelude.{◌≡◌, ◌<◌, ℕ, length, IfErr, IfOk, IfSome, IsErrOf};
 ghost use Rattle.kernel_terms.specs.Systems.{domains_of};
-ghost use Rattle.sj_io.specs.Causes.{Rose};
-ghost use Rattle.sj_io.specs.Files.{CountsStay};
+ghost use Rattle.sj_io.specs.definitions.Causes.{Rose};
+ghost use Rattle.sj_io.specs.definitions.Files.{CountsStay};
 ghost use Rattle.tick_log.specs.definitions.Holding.{run_state, HoldsRun};
 ghost use Rattle.domain_core.specs.definitions.step.Compiling.{CanCompile};
 ghost use Rattle.gals_core.specs.definitions.OrderPlans.{AreDomainsOf};

@@ -1,9 +1,9 @@
 // The top call.
 
 ghost use Rattle.std.specs.Prelude.{◌≡◌, ◌≢◌, ◌⊎◌, ◌≤◌, true, IfSome, codes};
-ghost use Rattle.sj_io.specs.Causes.{Rose};
-ghost use Rattle.sj_io.specs.Files.{CountsStay};
-ghost use Rattle.sj_io.specs.Sinks.{TakesMore, TakesPrefix};
+ghost use Rattle.sj_io.specs.definitions.Causes.{Rose};
+ghost use Rattle.sj_io.specs.definitions.Files.{CountsStay};
+ghost use Rattle.sj_io.specs.definitions.Sinks.{TakesMore, TakesPrefix};
 ghost use Rattle.tick_log.specs.Puts.{Puts};
 ghost use Rattle.sj_main.specs.Words.{AreFew};
 ghost use Rattle.sj_main.specs.definitions.Answers.{PrintsRun, PrintsRefusal, PrintsWeight, FailsToRead, BeginsAnswer};

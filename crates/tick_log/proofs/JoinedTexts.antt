@@ -2,8 +2,8 @@
 use Rattle.std.proofs.Common.{◌≡◌, ℕ, min, Bool, true, false, ◌+◌, ◌≤◌, List, ◌++◌, length, take, sym, ap, ◌∙◌, subst, arith, append_assoc, Option, Some, None}
 use Rattle.std.proofs.lemmas.List.{take-append-le, take_min}
 use Rattle.std.proofs.Math.Seq.{take-append-add}
-use Rattle.sj_io.specs.Causes.{Rose}
-use Rattle.sj_io.specs.Sinks.{TakesMore, TakesPrefix}
+use Rattle.sj_io.specs.definitions.Causes.{Rose}
+use Rattle.sj_io.specs.definitions.Sinks.{TakesMore, TakesPrefix}
 use Rattle.tick_log.specs.Puts.{Puts, PutsAt}
 
 more : (b c : Option (List ℕ)) (old x y : List ℕ) → b ≡ Some (old ++ x) → TakesMore b c y → c ≡ Some (old ++ (x ++ y))

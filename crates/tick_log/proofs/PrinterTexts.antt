@@ -3,11 +3,11 @@ use Rattle.std.proofs.Common.{◌≡◌, ℕ, min, Bool, true, false, ◌+◌, �
 use Rattle.std.proofs.lemmas.List.{take-append-le, append-nil, take_min, take-take}
 use Rattle.std.proofs.Math.Seq.{take-append-add, take-append_seam}
 use Rattle.std.specs.Prelude.{Result, Ok, Err, OnOk, OnErr, is_ok}
-use Rattle.sj_io.specs.Causes.{Rose}
+use Rattle.sj_io.specs.definitions.Causes.{Rose}
 use Rattle.sj_io.specs.declared.whole.WriteError.{WriteError}
-use Rattle.sj_io.specs.Sinks.{TakesMore, TakesPrefix}
-use Rattle.sj_io.specs.Gathers.{Gathers, GathersPrefix}
-use Rattle.sj_io.proofs.Gathering.{gathers_both, gathers_nothing}
+use Rattle.sj_io.specs.definitions.Sinks.{TakesMore, TakesPrefix}
+use Rattle.sj_io.specs.definitions.Gathers.{Gathers, GathersPrefix}
+use Rattle.sj_io.proofs.GatheringLemmas.{gathers_both, gathers_nothing}
 use Rattle.tick_log.specs.Prints.{Standing, Adds, AddsAt}
 
 -- a part of the second text after the whole first one

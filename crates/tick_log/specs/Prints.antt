@@ -1,7 +1,7 @@
 -- What a printer puts, where a failure of the sink before or within leaves a prefix.
 use Rattle.std.specs.Prelude.{◌≡◌, ℕ, ◌≤◌, Bool, true, false, List, Option}
-use Rattle.sj_io.specs.Causes.{Rose}
-use Rattle.sj_io.specs.Gathers.{waiting, Gathers, GathersPrefix}
+use Rattle.sj_io.specs.definitions.Causes.{Rose}
+use Rattle.sj_io.specs.definitions.Gathers.{waiting, Gathers, GathersPrefix}
 use Rattle.tick_log.specs.declared.printer.Printer.{Printer}
 
 -- whether all went well, what the sink has taken and its faults, and what waits for it

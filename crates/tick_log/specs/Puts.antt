@@ -1,7 +1,7 @@
 -- What a sink took, where a failure before or within leaves a prefix.
 use Rattle.std.specs.Prelude.{◌≡◌, ℕ, ◌≤◌, Bool, true, false, List, Option}
-use Rattle.sj_io.specs.Causes.{Rose}
-use Rattle.sj_io.specs.Sinks.{TakesMore, TakesPrefix}
+use Rattle.sj_io.specs.definitions.Causes.{Rose}
+use Rattle.sj_io.specs.definitions.Sinks.{TakesMore, TakesPrefix}
 
 abbrev pub PutsAt : Bool → Bool → Option (List ℕ) → Option (List ℕ) → ℕ → ℕ → List ℕ → Type 0
 PutsAt true true a b f g x = TakesMore a b x

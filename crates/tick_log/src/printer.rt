@@ -1,6 +1,6 @@
 ghost use Rattle.std.specs.Prelude.{◌≡◌, true, decimal, [], OnOk, is_ok};
 ghost use Rattle.std.specs.Fmt.{signed_decimal};
-ghost use Rattle.sj_io.specs.Gathers.{waiting};
+ghost use Rattle.sj_io.specs.definitions.Gathers.{waiting};
 ghost use Rattle.tick_log.specs.Prints.{Prints};
 
 use itoa::Buffer;

@@ -1,8 +1,8 @@
 -- What the program has done for its words when it answers.
 use Rattle.std.specs.Prelude.{ℕ, List, Option}
-use Rattle.sj_io.specs.Causes.{Rose}
-use Rattle.sj_io.specs.Files.{CountsStay}
-use Rattle.sj_io.specs.Sinks.{TakesMore, TakesPrefix}
+use Rattle.sj_io.specs.definitions.Causes.{Rose}
+use Rattle.sj_io.specs.definitions.Files.{CountsStay}
+use Rattle.sj_io.specs.definitions.Sinks.{TakesMore, TakesPrefix}
 use Rattle.sj_main.specs.declared.commands.Turns.{Turns}
 use Rattle.sj_main.specs.definitions.Commands.{IsOrder}
 use Rattle.sj_main.specs.definitions.Verdicts.{IsTextOfRun, IsRefusal, IsOverweight, OrdersSuch, Outcome, Done, Refused, NoCommand, Misfit, ReadFault, NoMemory, Overweight, IsAnswer, overweight_line}

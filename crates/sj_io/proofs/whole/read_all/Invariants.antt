@@ -1,6 +1,6 @@
 use Rattle.std.proofs.Common.{◌≡◌, ◌+◌, ◌≤◌, ◌-◌, take, vec_len}
 use Rattle.std.specs.Prelude.{IfSome}
-use Rattle.sj_io.specs.Files.{CountsStay, Keeps}
+use Rattle.sj_io.specs.definitions.Files.{CountsStay, Keeps}
 use Rattle.sj_io.proofs.whole.read_all.Given as goal
 
 abbrev pub invariant-loop-buf : goal.invariant-loop-buf

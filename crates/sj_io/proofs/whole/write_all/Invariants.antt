@@ -1,5 +1,5 @@
 use Rattle.std.proofs.Common.{◌≤◌, ◌-◌, length, take}
-use Rattle.sj_io.specs.Sinks.{TakesMore}
+use Rattle.sj_io.specs.definitions.Sinks.{TakesMore}
 use Rattle.sj_io.proofs.whole.write_all.Given as goal
 
 abbrev pub invariant-loop-done : goal.invariant-loop-done

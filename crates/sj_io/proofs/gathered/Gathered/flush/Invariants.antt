@@ -1,5 +1,5 @@
 use Rattle.std.proofs.Common.{◌-◌, ◌≤◌, []}
-use Rattle.sj_io.specs.Gathers.{waiting, Gathers}
+use Rattle.sj_io.specs.definitions.Gathers.{waiting, Gathers}
 use Rattle.sj_io.proofs.gathered.Gathered.flush.Given as goal
 
 abbrev pub invariant-loop-self : goal.invariant-loop-self

@@ -1,6 +1,6 @@
 use Rattle.std.proofs.Common.{◌++◌, ap, ◌∙◌, arith}
-use Rattle.sj_io.specs.Gathers.{waiting}
-use Rattle.sj_io.proofs.Gathering.{kept}
+use Rattle.sj_io.specs.definitions.Gathers.{waiting}
+use Rattle.sj_io.proofs.GatheringLemmas.{kept}
 use Rattle.sj_io.proofs.gathered.Gathered.keep.Goals as goal
 
 pub returns-clause-kept : goal.returns-clause-kept

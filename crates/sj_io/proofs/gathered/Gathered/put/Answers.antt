@@ -1,4 +1,4 @@
-use Rattle.sj_io.proofs.Gathering.{gathers_prefix}
+use Rattle.sj_io.proofs.GatheringLemmas.{gathers_prefix}
 use Rattle.sj_io.proofs.gathered.Gathered.put.Goals as goal
 
 pub returns-then-is_err-clause-puts_prefix : goal.returns-then-is_err-clause-puts_prefix

@@ -1,5 +1,5 @@
 use Rattle.std.proofs.Common.{◌-◌, ◌≤◌, length, take}
-use Rattle.sj_io.specs.Gathers.{waiting, Gathers}
+use Rattle.sj_io.specs.definitions.Gathers.{waiting, Gathers}
 use Rattle.sj_io.proofs.gathered.Gathered.put.Given as goal
 
 abbrev pub invariant-loop-done : goal.invariant-loop-done

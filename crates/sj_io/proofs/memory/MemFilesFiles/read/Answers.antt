@@ -1,6 +1,6 @@
 use Rattle.std.proofs.Common.{◌≡◌, ◌-◌, ◌∙◌, ap, min, length, false, rules}
-use Rattle.sj_io.specs.Files.{ReadsAt}
-use Rattle.sj_io.specs.Memory.{is_listed, next_number}
+use Rattle.sj_io.specs.definitions.Files.{ReadsAt}
+use Rattle.sj_io.specs.definitions.Memory.{is_listed, next_number}
 use Rattle.sj_io.proofs.MemoryLemmas.{bytes_nowhere, bytes_found, fails_where_absent, reads_where_told, of_told}
 use Rattle.sj_io.proofs.memory.MemFilesFiles.read.Goals as goal
 

@@ -1,6 +1,6 @@
 -- What waits for a sink, and what it takes of that.
 use Rattle.std.specs.Prelude.{◌≡◌, ℕ, List, ◌++◌, take, drop, Option}
-use Rattle.sj_io.specs.Sinks.{TakesMore}
+use Rattle.sj_io.specs.definitions.Sinks.{TakesMore}
 use Rattle.sj_io.specs.declared.gathered.Gathered.{Gathered}
 
 abbrev pub waiting : Gathered → List ℕ

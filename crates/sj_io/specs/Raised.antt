@@ -1,12 +1,7 @@
--- Counts by name: the first entry of a name counts, and all names without one have one count.
-use Rattle.std.specs.Prelude.{◌≡◌, ℕ, ◌+◌, ◌-◌, ◌^◌, ◌≤◌, min, cond, List, ◌∷◌, slice_set, slice_index}
-use Rattle.std.specs.Str.{bytes_eq}
-use Rattle.sj_io.specs.Causes.{Rose}
-use Rattle.sj_io.specs.Files.{CountsApart}
-
-abbrev pub count_of : List (List ℕ) → List ℕ → ℕ → List ℕ → ℕ
-count_of (n ∷ ns) (c ∷ cs) others name = cond (bytes_eq n name) c (count_of ns cs others name)
-count_of _ _ others name = others
+-- What a failure does to the counts.
+use Rattle.std.specs.Prelude.{◌≡◌, ℕ, ◌+◌, ◌-◌, ◌^◌, ◌≤◌, min, List, slice_set, slice_index}
+use Rattle.sj_io.specs.definitions.Causes.{Rose}
+use Rattle.sj_io.specs.definitions.Files.{CountsApart}
 
 -- the count at the place is one more, up to its type's end, and all else is as it was
 pub record IsRaised (names names' : List (List ℕ)) (counts counts' : List ℕ) (place : ℕ) : Type 0 where

@@ -1,6 +1,6 @@
 -- What the host's files know, and the faults of its files and of its sink.
-use Rattle.std.specs.Prelude.{ℕ, ◌≤◌, List, map, string_bytes}
-use Rattle.sj_io.specs.Counts.{count_of}
+use Rattle.std.specs.Prelude.{ℕ, List, map, string_bytes}
+use Rattle.sj_io.specs.definitions.Counts.{count_of}
 use Rattle.sj_io.specs.declared.host.HostName.{HostName}
 use Rattle.sj_io.specs.declared.host.HostFiles.{HostFiles}
 use Rattle.sj_io.specs.declared.host.HostSink.{HostSink}
@@ -25,7 +25,3 @@ module _ {R File Dir : Type 0} where
 module _ {R : Type 0} where
   abbrev pub print_faults : HostSink R → ℕ
   print_faults s = s.faults
-
--- a sink may take n of so many bytes: not more, and at least one where there is one
-abbrev pub IsCount : ℕ → ℕ → Type 0
-IsCount n len = (n ≤ len) × (1 ≤ len → 1 ≤ n)

@@ -2,7 +2,7 @@
 use Rattle.std.specs.Prelude.{◌≡◌, ℕ, ◌+◌, ◌-◌, ◌^◌, min, Bool, ◌||◌, ◌&&◌, ◌==◌, nat_lt, List, [], ◌∷◌, map, take, length, cond, Option, Some, None, is_none, string_bytes}
 use Rattle.std.specs.List.{list_any}
 use Rattle.std.specs.Str.{bytes_eq}
-use Rattle.sj_io.specs.Counts.{count_of}
+use Rattle.sj_io.specs.definitions.Counts.{count_of}
 use Rattle.sj_io.specs.declared.memory.MemFile.{MemFile}
 use Rattle.sj_io.specs.declared.memory.MemFiles.{MemFiles}
 use Rattle.sj_io.specs.declared.memory.MemSink.{MemSink}

@@ -4,8 +4,8 @@ use Rattle.std.proofs.lemmas.List.{take-append-drop, drop-append-le, append-nil,
 use Rattle.std.proofs.lemmas.Slice.{take-put_mid, between_is}
 use Rattle.std.proofs.Math.Seq.{take-add}
 use Rattle.std.specs.Prelude.{Option, Some, None}
-use Rattle.sj_io.specs.Sinks.{TakesMore}
-use Rattle.sj_io.specs.Gathers.{Gathers, GathersPrefix}
+use Rattle.sj_io.specs.definitions.Sinks.{TakesMore}
+use Rattle.sj_io.specs.definitions.Gathers.{Gathers, GathersPrefix}
 use borrow.Rule.Slice.PartMut.{put_mid}
 
 -- a copy into the buffer from `to` on
