@@ -183,6 +183,21 @@ fn lexeme(first: u8, rest: &[u8], bytes: &[u8]) -> Head
     sign(bytes)
 }
 
+// A comment, or a sign that begins with `/`.
+fn after_slash(rest: &[u8], bytes: &[u8]) -> Head
+    requires { bytes.now ≡ 47 ∷ rest.now }
+    ensures { result ≡ head (47 ∷ rest.now) }
+{
+    let Some((next, text)) = rest.split_first() else {
+        return sign(bytes);
+    };
+    match *next {
+        b'/' => Head::Between(line_len(bytes)),
+        b'*' => comment(text),
+        _ => sign(bytes),
+    }
+}
+
 /// What stands at the head of the bytes.
 pub fn make_head(bytes: &[u8]) -> Head
     ensures { result ≡ head bytes.now }
@@ -193,11 +208,8 @@ pub fn make_head(bytes: &[u8]) -> Head
     if is_white(*first) {
         return Head::Between(white_len(bytes));
     }
-    if bytes.starts_with(b"//") {
-        return Head::Between(line_len(bytes));
-    }
-    if bytes.starts_with(b"/*") {
-        return comment(&rest[1..]);
+    if *first == b'/' {
+        return after_slash(rest, bytes);
     }
     lexeme(*first, rest, bytes)
 }
