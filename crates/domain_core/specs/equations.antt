@@ -5,5 +5,6 @@ pub mod BuiltRegisters
 pub mod Circuit
 pub mod CircuitLists
 pub mod Codes
+pub mod PartEnds
 pub mod Places
 pub mod SendsFit

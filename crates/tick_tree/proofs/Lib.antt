@@ -1,4 +1,5 @@
 pub mod TreeWeights
+pub mod StartingEnds
 pub mod StatementLayers
 pub mod PartLists
 pub mod WayLemmas

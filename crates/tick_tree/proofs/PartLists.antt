@@ -11,7 +11,7 @@ use Rattle.kernel_terms.proofs.Layers.{statement-Seq}
 use Rattle.tick_tree.specs.definitions.Exits.{exits_fit}
 use Rattle.tick_tree.proofs.StatementLayers.{statement-If, statement-Present, statement-Par, statement-Abort, statement-Suspend}
 
-and_true : (b : Bool) → b && true ≡ b
+pub and_true : (b : Bool) → b && true ≡ b
 and_true b = elim b as (λ v. v && true ≡ v) [ true ↦ refl | false ↦ refl ]
 
 pub and_left : (a b : Bool) → a && b ≡ true → a ≡ true

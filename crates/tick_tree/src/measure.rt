@@ -48,10 +48,58 @@ const ENDS: Exits = Exits {
 };
 
 /// Whether the statement may end in its starting tick. Its exits are to depths below 64, as those of a system are.
+#[cycle(ends0)]
 pub fn ends0(term: &Term) -> bool
     ensures { exits_fit (statement term.now) ≡ true → result ≡ ends0 (statement term.now) }
 {
-    measured(term).starting.ends
+    match &term.form {
+        Form::Nothing | Form::Emit { .. } | Form::Assign { .. } => true,
+        Form::Pause | Form::Send { .. } | Form::Receive { .. } => false,
+        Form::Loop(_) | Form::Exit(_) => false,
+        Form::If { cond, yes, other } => {
+            let (yes, other) = (yes.get(), other.get());
+            if_parts_fit(term, cond, yes, other);
+            ends0(yes) || ends0(other)
+        }
+        Form::Present { test, yes, other } => {
+            let (yes, other) = (yes.get(), other.get());
+            present_parts_fit(term, test, yes, other);
+            ends0(yes) || ends0(other)
+        }
+        Form::Seq(parts) => {
+            let parts = parts.as_slice();
+            sequence_parts_fit(term, parts);
+            all_end0(parts)
+        }
+        Form::Par(parts) => {
+            let parts = parts.as_slice();
+            parallel_parts_fit(term, parts);
+            all_end0(parts)
+        }
+        Form::Trap(_) => measured(term).starting.ends,
+        Form::Abort {
+            immediate,
+            body,
+            ..
+        } => *immediate || ends0(body.get()),
+        Form::Suspend { body, .. } => ends0(body.get()),
+        Form::Local { body, .. } => ends0(body.get()),
+    }
+}
+
+// Whether each of the parts may end in its starting tick.
+#[cycle(ends0)]
+fn all_end0(parts: &[Term]) -> bool
+    ensures { list_all exits_fit (map statement parts.now) ≡ true → result ≡ list_all ends0 (map statement parts.now) }
+{
+    for i in 0..parts.len() {
+        let part = &parts[i];
+        first_part_fits(parts, i, part);
+        if !ends0(part) {
+            return false;
+        }
+    }
+    true
 }
 
 /// Whether the statement may end in a later tick. Its exits are to depths below 64.

@@ -15,4 +15,5 @@ pub mod CircuitWires
 pub mod CodeLiterals
 pub mod CodeTicks
 pub mod PairTerms
+pub mod PartEnds
 pub mod PlaceLists

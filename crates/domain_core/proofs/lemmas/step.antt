@@ -11,6 +11,7 @@ pub mod JoinListLemmas
 pub mod JoinPasses
 pub mod LastValues
 pub mod OwnEnds
+pub mod NoJoins
 pub mod PhaseStates
 pub mod PhaseTicks
 pub mod ResidualAsks

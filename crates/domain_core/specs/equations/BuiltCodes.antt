@@ -6,12 +6,21 @@ use Rattle.domain_core.specs.equations.Circuit.{Part, is_set, start, resume}
 use Rattle.domain_core.specs.declared.equations.circuit.Built.{Built}
 use Rattle.domain_core.specs.equations.BuiltForms.{Plain}
 use Rattle.domain_core.specs.equations.BuiltRegisters.{registers}
-use Rattle.std.specs.Prelude.{◌≡◌, ℕ, ◌<◌, ◌≤◌, slice_index, slice_index_or, slice_set, ◌++◌, ℤ, pos, Bool, false, List, [], ◌∷◌, length}
+use Rattle.std.specs.Prelude.{◌≡◌, ℕ, ◌<◌, ◌≤◌, slice_index, slice_index_or, slice_set, ◌++◌, ℤ, pos, Bool, false, ◌||◌, List, [], ◌∷◌, length}
 
 -- each pair has a number below the count and a wire below the limit
 abbrev pub Below : ℕ → ℕ → List (ℕ × ℕ) → Type 0
 Below count limit [] = Unit {0}
 Below count limit (s ∷ ss) = (s.0 < count) × (s.1 < limit) × Below count limit ss
+
+-- More equations, where a wire is on where either of two is. Wire 0 is off.
+pub record TellsEither (old new : List Equation) (first second wire : ℕ) : Type 0 where
+  pub ordered : first < length old → second < length old → IsOrdered 0 old → IsOrdered 0 new
+  pub fits : (size : ℕ) → FitsFrame size old → FitsFrame size new
+  pub grows : length old ≤ length new
+  pub below : second < length old → wire < length new
+  pub keeps : (frame values : List ℤ) → Satisfies new frame values → Satisfies old frame values
+  pub tests : (frame values : List ℤ) → Satisfies new frame values → is_on values 0 ≡ false → is_on values wire ≡ (is_on values first || is_on values second)
 
 -- More equations, which give for each number below the count a wire that tells whether some pair of
 -- this number is on. The wires stand in the order of the numbers.

@@ -1,5 +1,5 @@
 -- The parts of a domain between its steps, and what the phases of a step do to them.
-use Rattle.std.specs.Prelude.{◌≡◌, ℕ, suc, zero, ◌+◌, ◌^◌, ◌<◌, ◌≤◌, ℤ, Bool, true, false, List, length, get_or, Option, Vec, vec_capacity}
+use Rattle.std.specs.Prelude.{◌≡◌, ℕ, suc, zero, ◌+◌, ◌^◌, ◌<◌, ◌≤◌, ℤ, Bool, true, false, List, length, get_or, Option, None, Vec, vec_capacity}
 use Rattle.std.specs.Global.{Global}
 use Rattle.kernel_terms.specs.declared.tables.Tables.{Tables}
 use Rattle.kernel_rules.specs.definitions.Registers.{FitRegisters}
@@ -34,6 +34,10 @@ pub record PartsHold (program : Program) (state : State) (ticks room : ℕ) : Ty
   pub counts : (k : ℕ) → k < length program.ends.items → length (joins_at (joins_in state.joins.items) k) + pending (get_or state.standing.items k false) ≤ ticks
   pub memory : (k : ℕ) (v : Vec EndJoin Global) → k < length program.ends.items → ticks + room ≤ vec_capacity (get_or state.joins.items k v)
   pub limit : state.cause ≤ 2 ^ 62
+
+-- no join was answered at any end
+pub record AreNoJoins (answers : List (Option Joined)) : Type 0 where
+  pub none : (k : ℕ) → get_or answers k None ≡ None
 
 -- The joins that were answered have completed the ends. All else stays.
 pub record Applies (program : Program) (old new : State) (answers : List (Option Joined)) (ticks : ℕ) : Type 0 where

@@ -4,12 +4,28 @@ ghost use Rattle.std.specs.Prelude.{◌≡◌, ◌<◌, ◌++◌, ℕ, length, m
 ghost use Rattle.std.specs.List.{All};
 ghost use Rattle.tick_code.specs.Formulas.{IsOrdered, FitsFrame};
 ghost use Rattle.domain_core.specs.equations.Circuit.{Part};
-ghost use Rattle.domain_core.specs.equations.BuiltCodes.{Below, Merges, Shows, Steps, CanStep, head};
+ghost use Rattle.domain_core.specs.equations.BuiltCodes.{Below, TellsEither, Merges, Shows, Steps, CanStep, head};
 
 use crate::equations::builder::{Parts, next_wire};
 use java_values::NoMemory;
 use std::alloc::Global;
 use tick_code::{Code, Equation, Formula};
+
+// A wire that is on where either is. It is the second, where the first is wire 0, which is off.
+#[tactic(auto, using(crate::proofs::lemmas::equations::CircuitMerging::either_second))]
+fn either(equations: &mut Vec<Equation>, first: u32, second: u32) -> Result<u32, NoMemory>
+    ensures { IfOk result (λ wire. TellsEither equations.old.items equations.new.items first second wire) }
+{
+    if first == 0 {
+        return Ok(second);
+    }
+    let wire = next_wire(equations)?;
+    equations.push(Equation {
+        wire,
+        formula: Formula::Or(first, second),
+    })?;
+    Ok(wire)
+}
 
 // Adds equations that give, for each number below the count, a wire that is on where the wire of
 // some pair of this number is.
@@ -27,11 +43,7 @@ fn merge(
     let mut wires = vec![in alloc; 0u32; count as usize]?;
     for pair in pairs {
         let number = pair.0 as usize;
-        let wire = next_wire(equations)?;
-        equations.push(Equation {
-            wire,
-            formula: Formula::Or(wires[number], pair.1),
-        })?;
+        let wire = either(equations, wires[number], pair.1)?;
         wires[number] = wire;
     }
     Ok(wires)

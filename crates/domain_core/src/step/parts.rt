@@ -1,13 +1,13 @@
 // The parts of a domain, and the phases of a step.
 
-ghost use Rattle.std.specs.Prelude.{◌≡◌, ◌+◌, ◌^◌, ◌<◌, ◌≤◌, ℕ, length, get_or, cond, false, None, IfSome, List, Option};
+ghost use Rattle.std.specs.Prelude.{◌≡◌, ◌+◌, ◌^◌, ◌<◌, ◌≤◌, ℕ, length, get_or, cond, true, false, None, IfSome, List, Option};
 ghost use Rattle.cell_core.specs.declared.moves.Joined.{Joined};
 ghost use Rattle.domain_core.specs.equations.Codes.{AreSome};
 ghost use Rattle.domain_core.specs.definitions.step.EndCalls.{end_at, stands_after, CanRecall, CanOffer, RecallsAll, OffersAll};
 ghost use Rattle.domain_core.specs.step.EndPlaces.{ask_of, PlacesFit, LastFits, HaveOwnRegisters};
 ghost use Rattle.domain_core.specs.definitions.step.Domains.{register_at};
 ghost use Rattle.domain_core.specs.step.JoinLists.{StampsFit, HasRoom};
-ghost use Rattle.domain_core.specs.step.StepParts.{PartsHold, Applies, MakesCodeTick};
+ghost use Rattle.domain_core.specs.step.StepParts.{PartsHold, AreNoJoins, Applies, MakesCodeTick};
 
 use crate::equations::codes::Codes;
 use crate::step::end_state::{ask_all, clear_asks, join_all, raised, stand_all};
@@ -48,6 +48,20 @@ pub struct Scratch {
     pub zeros: Vec<i64>,
 }
 
+// Whether no join was answered.
+#[tactic(auto, using(crate::proofs::lemmas::step::NoJoins::no_joins))]
+fn none_answered(answers: &[Option<Joined>]) -> bool
+    ensures none { result ≡ true → AreNoJoins answers.now }
+    ensures some { result ≡ false → AreNoJoins answers.now → ⊥ }
+{
+    for at in 0..answers.len() {
+        if answers[at].is_some() {
+            return false;
+        }
+    }
+    true
+}
+
 /// The joins that were answered complete the ends. It takes no memory.
 pub fn apply(program: &Program, state: &mut State, answers: &[Option<Joined>], ticks: u32)
     requires answers { length answers.now ≡ length program.now.ends.items }
@@ -61,6 +75,9 @@ pub fn apply(program: &Program, state: &mut State, answers: &[Option<Joined>], t
     ensures applies { Applies program.now state.old state.new answers.now ticks }
     ensures standing { state.new.standing.items ≡ state.old.standing.items }
 {
+    if none_answered(answers) {
+        return;
+    }
     join_all(
         program.codes.places(),
         &program.last,

@@ -1,15 +1,12 @@
 -- The parts of a tree of the built forms are of the built forms too, and the rules say the same of it.
-use Rattle.std.proofs.Common.{◌≡◌, ℕ, zero, suc, ◌<◌, Bool, true, ◌&&◌, List, [], ◌∷◌, length, get_or, drop, map, arith, refl, sym, ap, ◌∙◌, subst}
+use Rattle.std.proofs.Common.{◌≡◌, ℕ, zero, suc, ◌<◌, Bool, true, List, [], ◌∷◌, length, get_or, drop, map, arith, sym, ap, ◌∙◌, subst}
 use Rattle.kernel_terms.specs.declared.term.Term.{Term}
 use Rattle.kernel_terms.specs.declared.term.Form.TheOpen.{Form-F}
 use Rattle.kernel_terms.specs.declared.term.Form.TheFolds.{fold-roll-Form, fold_out-Term}
 use Rattle.kernel_terms.specs.declared.term.Form as form
 use Rattle.kernel_terms.specs.declared.term.Form.TheVariants.{rolls-Seq, rolls-Loop}
-use Rattle.kernel_terms.specs.Statements.{statement}
-use Rattle.tick_tree.specs.definitions.Exits.{exits_fit}
 use Rattle.kernel_terms.specs.Built.{all_built, form_built, term_built, is_built, is_built_form}
-use Rattle.domain_core.specs.equations.BuiltForms.{Plain, Nothing, Pause, Emit, Seq, Loop, Send, Receive, whole, plain}
-use Rattle.domain_core.proofs.lemmas.equations.BuiltTrees.{first_true, second_true, built_stands}
+use Rattle.domain_core.proofs.lemmas.equations.BuiltTrees.{first_true, second_true}
 
 of_built : (t : Term) → is_built t ≡ is_built_form t.form
 of_built = fold_out-Term Bool Bool form_built term_built
@@ -33,17 +30,4 @@ built_drop (x ∷ l) (suc n) all = built_drop l n (second_true (is_built x) (all
 pub built_after : (l after : List Term) (n : ℕ) → after ≡ drop n l → all_built (map is_built l) ≡ true → all_built (map is_built after) ≡ true
 built_after l after n is all = subst (λ k. all_built (map is_built k) ≡ true) (sym is) (built_drop l n all)
 
--- no exit of it is too deep
-fits_plain : (p : Plain) → exits_fit (whole p) ≡ true
-fits_plain Nothing = refl
-fits_plain Pause = refl
-fits_plain (Emit s) = refl
-fits_plain (Seq p q) = ap (λ b. b && exits_fit (whole q)) (fits_plain p) ∙ fits_plain q
-fits_plain (Loop p) = fits_plain p
-fits_plain (Send c n) = refl
-fits_plain (Receive c) = refl
-
-pub built_fits : (t : Term) → is_built t ≡ true → exits_fit (statement t) ≡ true
-built_fits t b = ap exits_fit (built_stands t b) ∙ fits_plain (plain t)
-
-pub ruleset built_parts = (built-Seq, built-Loop, built_at, built_after, built_stands, built_fits)
+pub ruleset built_parts = (built-Seq, built-Loop, built_at, built_after)

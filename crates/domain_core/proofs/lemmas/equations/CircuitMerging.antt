@@ -11,7 +11,7 @@ use Rattle.tick_code.specs.declared.formula.Formula.TheVariants.{Or}
 use Rattle.tick_code.specs.Formulas.{FitsFrame, Satisfies, is_on}
 use Rattle.tick_code.proofs.SolvingLemmas.{satisfies_front}
 use Rattle.domain_core.specs.equations.Circuit.{Part, is_set}
-use Rattle.domain_core.specs.equations.BuiltCodes.{Below, Merges, Shows, head}
+use Rattle.domain_core.specs.equations.BuiltCodes.{Below, TellsEither, Merges, Shows, head}
 use Rattle.domain_core.proofs.lemmas.equations.CircuitPairs.{set-append, or_off}
 use Rattle.domain_core.proofs.lemmas.equations.CircuitOrder.{ordered_append, fits_append}
 use Rattle.domain_core.proofs.lemmas.equations.CircuitWires.{or_wire}
@@ -57,33 +57,59 @@ same_or_not m n = elim (cases_lt m n) [
   ]
 ]
 
-merges_one : (old now : List Equation) (wires : List ℕ) (seen : List (ℕ × ℕ)) (pair : ℕ × ℕ) (count : ℕ) → pair.0 < count → pair.1 < length old → Merges old now wires seen count
-    → Merges old (now ++ record { wire = length now; formula = Or (slice_index wires pair.0) pair.1 } ∷ []) (set wires pair.0 (length now)) (seen ++ pair ∷ []) count
-merges_one old now wires seen pair count in_count lt t =
-    let before = slice_index wires pair.0 in
-    let last : Equation = record { wire = length now; formula = Or before pair.1 } in
-    let len = length-append now (last ∷ []) in
-    let within = t.wires_below pair.0 in_count in
+pub either_second : (es : List Equation) (first second : ℕ) → first ≡ 0 → TellsEither es es first second second
+either_second es first second z = record {
+  ordered = λ a b h. h;
+  fits = λ size h. h;
+  grows = omega arith;
+  below = λ h. h;
+  keeps = λ f w h. h;
+  tests = λ f w s off. sym (ap (λ k. is_on w k || is_on w second) z ∙ ap (λ b. b || is_on w second) off);
+}
+
+either_or : (es : List Equation) (first second : ℕ) → TellsEither es (es ++ record { wire = length es; formula = Or first second } ∷ []) first second (length es)
+either_or es first second =
+    let last : Equation = record { wire = length es; formula = Or first second } in
+    let len = length-append es (last ∷ []) in
     record {
-      ordered = λ h. ordered_append now (last ∷ []) 0 (t.ordered h) ((let z : length now ≡ 0 + length now = omega arith in z), (omega (arith, within), omega (arith, t.grows)), tt);
-      fits = λ size h. fits_append now (last ∷ []) size (t.fits size h) (tt, tt);
-      grows = omega (arith, t.grows, len);
-      keeps = λ f w h. t.keeps f w (satisfies_front now (last ∷ []) f w h);
-      size = length-set wires pair.0 (length now) ∙ t.size;
+      ordered = λ a b h. ordered_append es (last ∷ []) 0 h ((let z : length es ≡ 0 + length es = omega arith in z), (omega (arith, a), omega (arith, b)), tt);
+      fits = λ size h. fits_append es (last ∷ []) size h (tt, tt);
+      grows = omega (arith, len);
+      below = λ h. omega (arith, len);
+      keeps = λ f w h. satisfies_front es (last ∷ []) f w h;
+      tests = λ f w sat off. or_wire w f es (length es) first second sat;
+    }
+
+pub either_added : (es new : List Equation) (first second wire : ℕ) → wire ≡ length es → new ≡ es ++ record { wire = wire; formula = Or first second } ∷ [] → TellsEither es new first second wire
+either_added es new first second wire w is =
+    subst (λ l. TellsEither es l first second wire) (sym is)
+    (subst (λ k. TellsEither es (es ++ record { wire = k; formula = Or first second } ∷ []) first second k) (sym w) (either_or es first second))
+
+merges_one : (old now next : List Equation) (wires : List ℕ) (seen : List (ℕ × ℕ)) (pair : ℕ × ℕ) (count wire : ℕ) → pair.0 < count → pair.1 < length old → TellsEither now next (slice_index wires pair.0) pair.1 wire → Merges old now wires seen count
+    → Merges old next (set wires pair.0 wire) (seen ++ pair ∷ []) count
+merges_one old now next wires seen pair count wire in_count lt e t =
+    let within = t.wires_below pair.0 in_count in
+    let second : pair.1 < length now = omega (arith, t.grows) in
+    record {
+      ordered = λ h. e.ordered within second (t.ordered h);
+      fits = λ size h. e.fits size (t.fits size h);
+      grows = omega (arith, t.grows, e.grows);
+      keeps = λ f w h. t.keeps f w (e.keeps f w h);
+      size = length-set wires pair.0 wire ∙ t.size;
       wires_below = λ n h. elim (same_or_not pair.0 n) [
-        | inl e ↦ (let s : slice_index (set wires pair.0 (length now)) n ≡ length now = ap (λ k. slice_index (set wires pair.0 (length now)) k) (sym e) ∙ get_or-set_same wires pair.0 (length now) 0 (omega (arith, t.size)) in omega (arith, len))
-        | inr ne ↦ (let s : slice_index (set wires pair.0 (length now)) n ≡ slice_index wires n = get_or-set_other wires pair.0 n (length now) 0 (λ e. ne (sym e)) in let b = t.wires_below n h in omega (arith, len))
+        | inl same ↦ (let s : slice_index (set wires pair.0 wire) n ≡ wire = ap (λ k. slice_index (set wires pair.0 wire) k) (sym same) ∙ get_or-set_same wires pair.0 wire 0 (omega (arith, t.size)) in let b = e.below second in omega arith)
+        | inr ne ↦ (let s : slice_index (set wires pair.0 wire) n ≡ slice_index wires n = get_or-set_other wires pair.0 n wire 0 (λ e. ne (sym e)) in let b = t.wires_below n h in omega (arith, e.grows))
       ];
       tests = λ n h f w sat off. elim (same_or_not pair.0 n) [
-        | inl e ↦
-            ap (λ k. is_on w (slice_index (set wires pair.0 (length now)) k)) (sym e) ∙ ap (λ k. is_on w k) (get_or-set_same wires pair.0 (length now) 0 (omega (arith, t.size)))
-            ∙ or_wire w f now (length now) before pair.1 sat
-            ∙ ap (λ k. is_on w (slice_index wires k) || is_on w pair.1) e
-            ∙ ap (λ b. b || is_on w pair.1) (t.tests n h f w (satisfies_front now (last ∷ []) f w sat) off)
-            ∙ sym (ap (λ b. is_set w seen n || b) (one_set w pair n e)) ∙ sym (set-append w seen (pair ∷ []) n)
+        | inl same ↦
+            ap (λ k. is_on w (slice_index (set wires pair.0 wire) k)) (sym same) ∙ ap (λ k. is_on w k) (get_or-set_same wires pair.0 wire 0 (omega (arith, t.size)))
+            ∙ e.tests f w sat off
+            ∙ ap (λ k. is_on w (slice_index wires k) || is_on w pair.1) same
+            ∙ ap (λ b. b || is_on w pair.1) (t.tests n h f w (e.keeps f w sat) off)
+            ∙ sym (ap (λ b. is_set w seen n || b) (one_set w pair n same)) ∙ sym (set-append w seen (pair ∷ []) n)
         | inr ne ↦
-            ap (λ k. is_on w k) (get_or-set_other wires pair.0 n (length now) 0 (λ e. ne (sym e)))
-            ∙ t.tests n h f w (satisfies_front now (last ∷ []) f w sat) off
+            ap (λ k. is_on w k) (get_or-set_other wires pair.0 n wire 0 (λ e. ne (sym e)))
+            ∙ t.tests n h f w (e.keeps f w sat) off
             ∙ sym (or_off (is_set w seen n)) ∙ sym (ap (λ b. is_set w seen n || b) (one_unset w pair n ne)) ∙ sym (set-append w seen (pair ∷ []) n)
       ];
     }
@@ -93,17 +119,14 @@ below_at count limit [] i d h lt = absurd (omega arith)
 below_at count limit (p ∷ ps) zero d h lt = (h.0, h.1)
 below_at count limit (p ∷ ps) (suc i) d h lt = below_at count limit ps i d h.2 (omega arith)
 
-pub merges_more : (old now next : List Equation) (wires wires2 : List ℕ) (pairs : List (ℕ × ℕ)) (i count : ℕ) (d : ℕ × ℕ) → i < length pairs → Below count (length old) pairs
-    → next ≡ now ++ record { wire = length now; formula = Or (slice_index wires (get_or pairs i d).0) (get_or pairs i d).1 } ∷ [] → wires2 ≡ set wires (get_or pairs i d).0 (length now)
-    → Merges old now wires (take i pairs) count → Merges old next wires2 (take (i + 1) pairs) count
-merges_more old now next wires wires2 pairs i count d lt below is is2 t =
+pub merges_more : (old now next : List Equation) (wires : List ℕ) (pairs : List (ℕ × ℕ)) (i count wire : ℕ) (d : ℕ × ℕ) → i < length pairs → Below count (length old) pairs
+    → TellsEither now next (slice_index wires (get_or pairs i d).0) (get_or pairs i d).1 wire
+    → Merges old now wires (take i pairs) count → Merges old next (set wires (get_or pairs i d).0 wire) (take (i + 1) pairs) count
+merges_more old now next wires pairs i count wire d lt below e t =
     let pair = get_or pairs i d in
     let b = below_at count (length old) pairs i d below lt in
     let seen : take i pairs ++ pair ∷ [] ≡ take (i + 1) pairs = sym (take-suc pairs i d lt) ∙ (let z : suc i ≡ i + 1 = omega arith in ap (λ k. take k pairs) z) in
-    let h = merges_one old now wires (take i pairs) pair count b.0 b.1 t in
-    let h1 = subst (λ l. Merges old l (set wires pair.0 (length now)) (take i pairs ++ pair ∷ []) count) (sym is) h in
-    let h2 = subst (λ l. Merges old next l (take i pairs ++ pair ∷ []) count) (sym is2) h1 in
-    subst (λ l. Merges old next wires2 l count) seen h2
+    subst (λ l. Merges old next (set wires pair.0 wire) l count) seen (merges_one old now next wires (take i pairs) pair count wire b.0 b.1 e t)
 
 pub ruleset merge_steps = (merges_none, merges_more, below_at)
 
