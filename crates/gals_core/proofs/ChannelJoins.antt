@@ -31,7 +31,7 @@ use Rattle.domain_core.specs.runs.StampsByStep.{StampsFrom, stamp_by_step}
 use Rattle.domain_core.proofs.lemmas.runs.StatesBetweenTicks.{put_here, put_apart, put_cases}
 use Rattle.gals_core.specs.Channels.{ChannelsState, cell_in, history_in, ticks_in, link_at, row_in}
 use Rattle.gals_core.specs.Setups.{order_setup}
-use Rattle.gals_core.specs.Worlds.{domain_at, IsInCells, own_side, found_state, found_stamp, RunBeginsWith, EndsIn}
+use Rattle.gals_core.specs.RunsOverCells.{domain_at, IsInCells, own_side, found_state, found_stamp, RunBeginsWith, EndsIn}
 use Rattle.domain_core.proofs.lemmas.step.OwnEnds.{own_end, rises}
 use Rattle.gals_core.proofs.OwnDomains.{domain_is}
 use Rattle.gals_core.proofs.EndAnswerLemmas.{still_waits, answers_ticks}
@@ -231,7 +231,7 @@ module _ (system : System) (turns rest : List ℕ) (d : ℕ) (view : ℕ → Dom
       let ticks_of : (k : ℕ) → k < domain_count p → ticks_in old k ≡ (x.s.domain k).ticks = λ k l. elim (cases_eq k d) [
         | inl q ↦ ap (ticks_in old) q ∙ turn.my_ticks ∙ sym (answers_ticks ends replies n after) ∙ ap (λ z. z.ticks) (sym x.mine) ∙ ap (λ z. (x.s.domain z).ticks) (sym q)
         | inr ne ↦
-            turn.their_ticks k l ne ∙ sym (answers_ticks (ends_of tables k) (Rattle.gals_core.specs.Worlds.pending x.cell (ends_of tables k)) (length (ends_of tables k)) (state_of (view k)))
+            turn.their_ticks k l ne ∙ sym (answers_ticks (ends_of tables k) (Rattle.gals_core.specs.RunsOverCells.pending x.cell (ends_of tables k)) (length (ends_of tables k)) (state_of (view k)))
             ∙ ap (λ z. z.ticks) (sym (x.theirs k l ne))
       ] in
       let step : JoinStep p x.s c record_is s' = record {

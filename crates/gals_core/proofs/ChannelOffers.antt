@@ -16,7 +16,7 @@ use Rattle.domain_core.specs.definitions.step.EndCalls.{end_at}
 use Rattle.domain_core.specs.definitions.step.Domains.{DomainView, ends_of, state_of}
 use Rattle.domain_core.specs.definitions.step.Steps.{Waits, IsWaitingOffer}
 use Rattle.gals_core.specs.Channels.{ChannelsState, cell_in, history_in, row_in}
-use Rattle.gals_core.specs.Worlds.{IsInCells, pending, found_state}
+use Rattle.gals_core.specs.RunsOverCells.{IsInCells, pending, found_state}
 use Rattle.gals_core.proofs.EndAnswerLemmas.{waited, waits_unanswered}
 use Rattle.gals_core.proofs.CallEffects.{new_rows, OfferedAt}
 
@@ -55,29 +55,22 @@ at_channel e None stamp old new reply h = inl (record {
 })
 at_channel e (Some v) stamp old new reply h = by_other (standing_at (other e.side) (cell_in old e.channel)) refl
   where
+    stays : (o : Standing) → standing_at (other e.side) (cell_in old e.channel) ≡ o → offer_reply e.side v stamp o ≡ None → after_offer e.side v stamp o ≡ o → ((w : ℤ) (t : ℕ) → o ≢ Open w t) → Quiet e (Some v) old new reply
+    stays o q no_reply same closed =
+        let none : reply ≡ None = h.replied ∙ ap (offer_reply e.side v stamp) q ∙ no_reply in
+        record {
+          reply_is = none;
+          other_stays =
+              ap (standing_at (other e.side)) h.cell
+              ∙ other_of e.side (after_own_offer v stamp (standing_at (other e.side) (cell_in old e.channel))) (after_offer e.side v stamp (standing_at (other e.side) (cell_in old e.channel)))
+              ∙ ap (after_offer e.side v stamp) q ∙ same ∙ sym q;
+          rows_stay = no_row old new e.channel reply none h.rows;
+          why = inr (λ w t z. closed w t (sym q ∙ z));
+        }
+
     by_other : (o : Standing) → standing_at (other e.side) (cell_in old e.channel) ≡ o → Quiet e (Some v) old new reply ⊎ Meets e (Some v) stamp old new reply
-    by_other Empty q =
-        let none : reply ≡ None = h.replied ∙ ap (offer_reply e.side v stamp) q in
-        inl (record {
-          reply_is = none;
-          other_stays =
-              ap (standing_at (other e.side)) h.cell
-              ∙ other_of e.side (after_own_offer v stamp (standing_at (other e.side) (cell_in old e.channel))) (after_offer e.side v stamp (standing_at (other e.side) (cell_in old e.channel)))
-              ∙ ap (after_offer e.side v stamp) q ∙ sym q;
-          rows_stay = no_row old new e.channel reply none h.rows;
-          why = inr (λ w t z. cc);
-        })
-    by_other (Taken j) q =
-        let none : reply ≡ None = h.replied ∙ ap (offer_reply e.side v stamp) q in
-        inl (record {
-          reply_is = none;
-          other_stays =
-              ap (standing_at (other e.side)) h.cell
-              ∙ other_of e.side (after_own_offer v stamp (standing_at (other e.side) (cell_in old e.channel))) (after_offer e.side v stamp (standing_at (other e.side) (cell_in old e.channel)))
-              ∙ ap (after_offer e.side v stamp) q ∙ sym q;
-          rows_stay = no_row old new e.channel reply none h.rows;
-          why = inr (λ w t z. cc);
-        })
+    by_other Empty q = inl (stays Empty q refl refl (λ w t z. cc))
+    by_other (Taken j) q = inl (stays (Taken j) q refl refl (λ w t z. cc))
     by_other (Open w t) q =
         let some : reply ≡ Some (join_of e.side v stamp w t) = h.replied ∙ ap (offer_reply e.side v stamp) q in
         inr (record {

@@ -25,7 +25,7 @@ use Rattle.domain_core.specs.runs.StampsByStep as scheduled
 use Rattle.domain_core.proofs.lemmas.runs.StatesBetweenTicks.{put_here, put_apart}
 use Rattle.domain_core.proofs.lemmas.step.AnswersFound.{one_sent, one_got}
 use Rattle.gals_core.specs.Setups.{order_setup}
-use Rattle.gals_core.specs.Worlds.{domain_at, IsInCells, own_side, pending, found_state, found_stamp}
+use Rattle.gals_core.specs.RunsOverCells.{domain_at, IsInCells, own_side, pending, found_state, found_stamp}
 use Rattle.domain_core.proofs.lemmas.step.StateJoins.{ends_apart}
 use Rattle.domain_core.proofs.lemmas.step.OwnEnds.{IsOwn, EndAt, has_side}
 use Rattle.gals_core.proofs.EndAnswerLemmas.{OneMore, answers_same, raised_same, answers_more, raised_more, still_waits}

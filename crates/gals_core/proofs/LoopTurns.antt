@@ -23,7 +23,7 @@ use Rattle.gals_core.specs.Setups.{order_setup}
 use Rattle.domain_core.specs.definitions.runs.Systems.{domain_count, channel_count}
 use Rattle.domain_core.specs.definitions.runs.Scheduled.{turns_of}
 use Rattle.gals_core.specs.Channels.{ChannelsState, Moves, cell_in, history_in, ticks_in, link_at, end_view}
-use Rattle.gals_core.specs.Worlds.{IsInCells, own_side, StandsFor}
+use Rattle.gals_core.specs.RunsOverCells.{IsInCells, own_side, StandsFor}
 use Rattle.gals_core.specs.BetweenTurns.{IsBetweenTurns, FitSoFar}
 use Rattle.gals_core.specs.definitions.OrderPlans.{view_at, no_domain}
 use Rattle.domain_core.proofs.lemmas.step.OwnEnds.{IsOwn, own_end, has_side}

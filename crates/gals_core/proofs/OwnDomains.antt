@@ -6,7 +6,7 @@ use Rattle.cell_core.specs.declared.moves.Side.{Side}
 use Rattle.cell_core.specs.declared.moves.Side.TheVariants.{Sender, Receiver}
 use Rattle.domain_core.specs.declared.step.ends_of.EndOf.{EndOf}
 use Rattle.domain_core.proofs.lemmas.step.OwnEnds.{IsOwn, OwnEnd}
-use Rattle.gals_core.specs.Worlds.{domain_at}
+use Rattle.gals_core.specs.RunsOverCells.{domain_at}
 
 pub domain_is : (tables : Tables) (d : ℕ) (e : EndOf) → OwnEnd tables d e → domain_at tables e.side e.channel ≡ d
 domain_is tables d e h = of_side e.side h.own

@@ -27,7 +27,7 @@ use Rattle.domain_core.proofs.lemmas.step.AnswersFound.{answers_found}
 use Rattle.domain_core.proofs.lemmas.step.StampAnswers.{all_raised, all_other, stamp_is_next}
 use Rattle.domain_core.proofs.lemmas.runs.WellFormedSystems.{system_joins}
 use Rattle.gals_core.specs.Channels.{ChannelsState, Moves, cell_in}
-use Rattle.gals_core.specs.Worlds.{IsInCells, own_side, pending, found_state, found_stamp}
+use Rattle.gals_core.specs.RunsOverCells.{IsInCells, own_side, pending, found_state, found_stamp}
 use Rattle.domain_core.proofs.lemmas.step.StateJoins.{ends_apart}
 use Rattle.gals_core.proofs.EndAnswerLemmas.{waited, waits_unanswered}
 use Rattle.gals_core.proofs.CallEffects.{split, Recalled, Offered, all_recalled, all_offered, asked_cell}

@@ -22,7 +22,7 @@ use Rattle.domain_core.specs.definitions.runs.Scheduled.{turns_of}
 use Rattle.domain_core.proofs.lemmas.runs.WellFormedSystems.{system_is_fresh, system_joins, few_domains}
 use Rattle.gals_core.specs.declared.links.Link.{Link}
 use Rattle.gals_core.specs.Channels.{ChannelsState, cell_in, history_in, link_at, no_history}
-use Rattle.gals_core.specs.Worlds.{IsNew}
+use Rattle.gals_core.specs.RunsOverCells.{IsNew}
 use Rattle.gals_core.specs.BetweenTurns.{IsBetweenTurns, FitSoFar}
 use Rattle.gals_core.specs.definitions.OrderPlans.{view_at, no_domain}
 use Rattle.gals_core.specs.Opening.{AreOpened, Reserves, link_of, opened_history}

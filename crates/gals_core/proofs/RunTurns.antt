@@ -31,7 +31,7 @@ use Rattle.kernel_rules.specs.definitions.LegalTick.{no_inputs}
 use Rattle.domain_core.proofs.lemmas.step.StampAnswers.{all_raised}
 use Rattle.gals_core.specs.Channels.{ChannelsState, Moves, cell_in, history_in}
 use Rattle.gals_core.specs.Setups.{order_setup}
-use Rattle.gals_core.specs.Worlds.{own_side, pending, RunBeginsWith, StandsFor, IsNew}
+use Rattle.gals_core.specs.RunsOverCells.{own_side, pending, RunBeginsWith, StandsFor, IsNew}
 use Rattle.domain_core.proofs.lemmas.step.StateJoins.{ends_apart}
 use Rattle.gals_core.proofs.EndAnswerLemmas.{raised_same, answers_mark}
 use Rattle.gals_core.proofs.CallEffects.{split, all_recalled}

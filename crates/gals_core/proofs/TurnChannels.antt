@@ -18,7 +18,7 @@ use Rattle.domain_core.specs.step.Answers.{with_answers, end_done}
 use Rattle.domain_core.specs.definitions.runs.Systems.{sender_of, domain_count, channel_count}
 use Rattle.gals_core.specs.Channels.{ChannelsState, cell_in, history_in}
 use Rattle.gals_core.specs.Setups.{order_setup}
-use Rattle.gals_core.specs.Worlds.{domain_at, found_state}
+use Rattle.gals_core.specs.RunsOverCells.{domain_at, found_state}
 use Rattle.domain_core.proofs.lemmas.step.OwnEnds.{IsOwn, own_end, has_side, rises}
 use Rattle.gals_core.proofs.OwnDomains.{domain_is}
 use Rattle.gals_core.proofs.EndAnswerLemmas.{waited}

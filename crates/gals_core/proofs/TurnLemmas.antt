@@ -26,7 +26,7 @@ use Rattle.domain_core.proofs.lemmas.runs.StatesBetweenTicks.{put_here, put_apar
 use Rattle.domain_core.proofs.lemmas.step.StampAnswers.{all_raised}
 use Rattle.gals_core.specs.Channels.{ChannelsState, cell_in, history_in, ticks_in, link_at}
 use Rattle.gals_core.specs.Setups.{order_setup}
-use Rattle.gals_core.specs.Worlds.{domain_at, IsInCells, own_side, pending, found_state, found_stamp, RunBeginsWith, StandsFor}
+use Rattle.gals_core.specs.RunsOverCells.{domain_at, IsInCells, own_side, pending, found_state, found_stamp, RunBeginsWith, StandsFor}
 use Rattle.domain_core.proofs.lemmas.step.OwnEnds.{own_end}
 use Rattle.gals_core.proofs.OwnDomains.{domain_is}
 use Rattle.gals_core.proofs.EndAnswerLemmas.{answers_same, raised_same, answers_ticks}

@@ -11,7 +11,7 @@ use Rattle.gals_core.specs.Setups.{order_setup}
 use Rattle.domain_core.specs.definitions.runs.Systems.{IsSystem, domain_count, channel_count}
 use Rattle.domain_core.specs.definitions.runs.Scheduled.{turns_of}
 use Rattle.gals_core.specs.Channels.{ChannelsState, cell_in, history_in, ticks_in, link_at}
-use Rattle.gals_core.specs.Worlds.{StandsFor}
+use Rattle.gals_core.specs.RunsOverCells.{StandsFor}
 use Rattle.gals_core.specs.definitions.OrderPlans.{view_at}
 
 -- the entries and the rows so far are those of the system

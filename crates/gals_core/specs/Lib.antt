@@ -3,5 +3,5 @@ pub mod Channels
 pub mod Opening
 pub mod Plans
 pub mod Setups
-pub mod Worlds
+pub mod RunsOverCells
 pub mod definitions

@@ -3,6 +3,7 @@
 
 pub mod expr;
 mod laws;
+mod limits;
 pub mod sig_test;
 mod system;
 pub mod tables;
@@ -10,6 +11,7 @@ pub mod term;
 
 pub use expr::{Expr, ExprForm};
 pub use laws::threads_share_systems;
+pub use limits::{MOST_CHANNELS, MOST_DOMAINS, MOST_SIGNALS};
 pub use sig_test::SigTest;
 pub use system::System;
 pub use tables::{ChannelInfo, Combine, SignalInfo, Sort, Tables, VariableInfo};

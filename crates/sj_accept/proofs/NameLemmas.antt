@@ -7,7 +7,7 @@ use Rattle.std.proofs.lemmas.List.Folds.{list_any-append}
 use Rattle.std.proofs.lemmas.Bool.Decides.{nat_tests}
 use Rattle.std.proofs.lemmas.Slice.Eq.{bytes_eq-Decides}
 use Rattle.java_values.specs.Names.{are_distinct}
-use Rattle.sj_accept.specs.definitions.Ports.{Port, SignalPort, ChannelPort, Interface, port_interface, port_signals, port_channels, port_names}
+use Rattle.sj_accept.specs.definitions.Ports.{BuiltPort, BuiltSignal, BuiltChannel, Interface, port_interface, port_signals, port_channels, port_names}
 use Rattle.sj_accept.specs.definitions.Lowering.{number_of}
 use Rattle.sj_accept.specs.PortNames.{with_port, is_taken}
 
@@ -111,13 +111,13 @@ distinct_not (n ∷ ns) more name d =
 
 -- the interface of ports, of which one more is declared
 
-pub interface_push : (ports : List Port) (port : Port) → port_interface (ports ++ port ∷ []) ≡ with_port (port_interface ports) port
-interface_push [] (SignalPort n) = refl
-interface_push [] (ChannelPort n) = refl
-interface_push (SignalPort m ∷ ports) (SignalPort n) = ap (λ (i : Interface). let j : Interface = record { signals = m ∷ i.signals; channels = i.channels } in j) (interface_push ports (SignalPort n))
-interface_push (SignalPort m ∷ ports) (ChannelPort n) = ap (λ (i : Interface). let j : Interface = record { signals = m ∷ i.signals; channels = i.channels } in j) (interface_push ports (ChannelPort n))
-interface_push (ChannelPort m ∷ ports) (SignalPort n) = ap (λ (i : Interface). let j : Interface = record { signals = i.signals; channels = m ∷ i.channels } in j) (interface_push ports (SignalPort n))
-interface_push (ChannelPort m ∷ ports) (ChannelPort n) = ap (λ (i : Interface). let j : Interface = record { signals = i.signals; channels = m ∷ i.channels } in j) (interface_push ports (ChannelPort n))
+pub interface_push : (ports : List BuiltPort) (port : BuiltPort) → port_interface (ports ++ port ∷ []) ≡ with_port (port_interface ports) port
+interface_push [] (BuiltSignal n) = refl
+interface_push [] (BuiltChannel n) = refl
+interface_push (BuiltSignal m ∷ ports) (BuiltSignal n) = ap (λ (i : Interface). let j : Interface = record { signals = m ∷ i.signals; channels = i.channels } in j) (interface_push ports (BuiltSignal n))
+interface_push (BuiltSignal m ∷ ports) (BuiltChannel n) = ap (λ (i : Interface). let j : Interface = record { signals = m ∷ i.signals; channels = i.channels } in j) (interface_push ports (BuiltChannel n))
+interface_push (BuiltChannel m ∷ ports) (BuiltSignal n) = ap (λ (i : Interface). let j : Interface = record { signals = i.signals; channels = m ∷ i.channels } in j) (interface_push ports (BuiltSignal n))
+interface_push (BuiltChannel m ∷ ports) (BuiltChannel n) = ap (λ (i : Interface). let j : Interface = record { signals = i.signals; channels = m ∷ i.channels } in j) (interface_push ports (BuiltChannel n))
 
 at_left : (b s c n : Bool) → n ≡ (s || c) → (b || n) ≡ ((b || s) || c)
 at_left true s c n h = refl
@@ -129,10 +129,10 @@ at_right true false c n h = refl
 at_right false s c n h = h
 
 -- a name of a port is the name of a signal or of a channel
-pub taken_is : (ports : List Port) (name : List ℕ) → list_any (bytes_eq name) (port_names ports) ≡ is_taken (port_interface ports) name
+pub taken_is : (ports : List BuiltPort) (name : List ℕ) → list_any (bytes_eq name) (port_names ports) ≡ is_taken (port_interface ports) name
 taken_is [] name = refl
-taken_is (SignalPort m ∷ ports) name = at_left (bytes_eq name m) (list_any (bytes_eq name) (port_signals ports)) (list_any (bytes_eq name) (port_channels ports)) (list_any (bytes_eq name) (port_names ports)) (taken_is ports name)
-taken_is (ChannelPort m ∷ ports) name = at_right (bytes_eq name m) (list_any (bytes_eq name) (port_signals ports)) (list_any (bytes_eq name) (port_channels ports)) (list_any (bytes_eq name) (port_names ports)) (taken_is ports name)
+taken_is (BuiltSignal m ∷ ports) name = at_left (bytes_eq name m) (list_any (bytes_eq name) (port_signals ports)) (list_any (bytes_eq name) (port_channels ports)) (list_any (bytes_eq name) (port_names ports)) (taken_is ports name)
+taken_is (BuiltChannel m ∷ ports) name = at_right (bytes_eq name m) (list_any (bytes_eq name) (port_signals ports)) (list_any (bytes_eq name) (port_channels ports)) (list_any (bytes_eq name) (port_names ports)) (taken_is ports name)
 
 -- a name between others that keep apart
 distinct_insert : (ns ms : List (List ℕ)) (name : List ℕ) → are_distinct (ns ++ ms) ≡ true → list_any (bytes_eq name) (ns ++ ms) ≡ false → are_distinct (ns ++ name ∷ ms) ≡ true
@@ -149,16 +149,16 @@ distinct_insert (n ∷ ns) ms name d h =
     step false false false c d false e f h k i j g = ap (λ x. not x && f) j ∙ g h k
 
 -- no signal has the name of another port, and no channel
-pub distinct_names : (ports : List Port) → are_distinct (port_names ports) ≡ true → are_distinct (port_signals ports ++ port_channels ports) ≡ true
+pub distinct_names : (ports : List BuiltPort) → are_distinct (port_names ports) ≡ true → are_distinct (port_signals ports ++ port_channels ports) ≡ true
 distinct_names [] h = refl
-distinct_names (SignalPort m ∷ ports) h =
+distinct_names (BuiltSignal m ∷ ports) h =
     step (list_any (bytes_eq m) (port_names ports)) (list_any (bytes_eq m) (port_signals ports ++ port_channels ports)) (are_distinct (port_names ports)) (are_distinct (port_signals ports ++ port_channels ports)) h
     (taken_is ports m ∙ sym (list_any-append (bytes_eq m) (port_signals ports) (port_channels ports))) (distinct_names ports)
   where
     step : (a b c d : Bool) → (not a && c) ≡ true → a ≡ b → (c ≡ true → d ≡ true) → (not b && d) ≡ true
     step true b c d h k i = cc
     step false b c d h k i = ap (λ x. not x && d) (sym k) ∙ i h
-distinct_names (ChannelPort m ∷ ports) h =
+distinct_names (BuiltChannel m ∷ ports) h =
     let p = parts (list_any (bytes_eq m) (port_names ports)) (are_distinct (port_names ports)) h in
     distinct_insert (port_signals ports) (port_channels ports) m (distinct_names ports p.1)
     (list_any-append (bytes_eq m) (port_signals ports) (port_channels ports) ∙ sym (taken_is ports m) ∙ p.0)

@@ -8,7 +8,7 @@ use Rattle.kernel_terms.specs.Limits.{most_signals}
 use Rattle.kernel_terms.specs.WellFormed.{stands_in}
 use Rattle.kernel_terms.specs.Statements.{Stmt, statement}
 use Rattle.sj_accept.specs.definitions.Ports.{Interface, port_interface}
-use Rattle.sj_accept.specs.definitions.Programs.{Program, domain_statements, emits_of, first_with, owner_of, signals_from, tables_for}
+use Rattle.sj_accept.specs.definitions.Programs.{LoweredProgram, domain_statements, emits_of, first_with, owner_of, signals_from, tables_for}
 use Rattle.sj_accept.specs.definitions.Accepted.{KeepsOwners, KeepsNamesAndOwners}
 use Rattle.sj_accept.specs.PortNames.{IsWithinLimits}
 use Rattle.sj_accept.specs.Owners.{count_of}
@@ -70,7 +70,7 @@ signals_few i ps k one =
     let b = below_few (length ps) t.signals (λ d l. let e = count_is d 0 t.signals in let f = k.few d l in omega arith) in
     omega arith
 
-pub ports_within : (p : Program) → 1 ≤ length p.terms → KeepsNamesAndOwners p → IsWithinLimits (port_interface p.ports)
+pub ports_within : (p : LoweredProgram) → 1 ≤ length p.terms → KeepsNamesAndOwners p → IsWithinLimits (port_interface p.ports)
 ports_within p one k =
     let i = port_interface p.ports in
     let n : length (domain_statements p) ≡ length p.terms = length-map p.terms statement in

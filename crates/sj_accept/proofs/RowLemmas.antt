@@ -1,5 +1,5 @@
 -- Small sources and their refusals.
-use Rattle.std.proofs.Common.{◌≡◌, ◌↔◌, ℕ, true, false, List, [], ◌∷◌, ◌++◌, codes, refl, sym, ap, ◌∙◌, Some}
+use Rattle.std.proofs.Common.{◌≡◌, ◌↔◌, true, false, List, [], ◌∷◌, codes, refl, ap, ◌∙◌}
 use Rattle.sj_lexer.specs.declared.head.Fault.TheVariants as fault
 use Rattle.sj_lexer.specs.declared.token.Token.{Token}
 use Rattle.sj_lexer.specs.declared.token.Class.TheVariants.{Reserved, Mark}
@@ -10,7 +10,6 @@ use Rattle.sj_lexer.specs.definitions.Readings.{Gap, Text}
 use Rattle.sj_grammar.specs.definitions.Machine.{program, can_read, reads}
 use Rattle.sj_grammar.specs.definitions.Limits.{IsWithin}
 use Rattle.sj_grammar.specs.definitions.Sentences.{AreProgram, BeginProgram}
-use Rattle.expr_parser.specs.definitions.Longest.{IsLongest}
 use Rattle.sj_accept.specs.definitions.Refusals.{IsSyntaxAt}
 
 pub bad_byte : readings.IsRefused (codes "system @") fault.BadByte 7

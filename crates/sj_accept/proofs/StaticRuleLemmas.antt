@@ -1,6 +1,7 @@
 -- The rules on loops and weight, and what is accepted.
-use Rattle.std.proofs.Common.{◌≡◌, ℕ, zero, suc, ◌≤◌, ◌<◌, Bool, true, false, ◌&&◌, ◌↔◌, List, [], ◌∷◌, length, map, get_or, Some, arith, refl, sym, ap, ◌∙◌, subst}
+use Rattle.std.proofs.Common.{◌≡◌, ℕ, zero, suc, ◌≤◌, Bool, true, false, ◌&&◌, ◌↔◌, List, [], ◌∷◌, length, map, get_or, Some, arith, refl, sym, ap, ◌∙◌, subst}
 use Rattle.std.specs.List.{list_all}
+use Rattle.java_values.specs.SourceLimits.{most_source_bytes}
 use Rattle.kernel_terms.specs.declared.term.Term.{Term}
 use Rattle.kernel_terms.specs.declared.system.System.{System}
 use Rattle.kernel_terms.specs.Systems.{domains_of}
@@ -13,8 +14,7 @@ use Rattle.sj_accept.specs.StaticRules.{AllKeepStaticRules}
 use Rattle.sj_accept.specs.Lowered.{IsSystemOf, HasNoSystem}
 use Rattle.sj_accept.specs.definitions.Sources.{SourceTree, IsParsed}
 use Rattle.sj_accept.specs.definitions.Ports.{Interface}
-use Rattle.sj_accept.specs.definitions.Programs.{Program, program_of, domain_statements}
-use Rattle.sj_accept.specs.definitions.Accepted.{IsSourceOf}
+use Rattle.sj_accept.specs.definitions.Programs.{LoweredProgram, program_of, domain_statements}
 use Rattle.sj_accept.specs.definitions.Systems.{Accepts}
 use Rattle.sj_accept.specs.definitions.Refusals.{IsUnaccepted}
 
@@ -48,7 +48,7 @@ pub ruleset rules_by_weight = (capped_within)
 abbrev OneTree : Type 0
 OneTree = (source : List ℕ) (t u : SourceTree) → IsParsed source t → IsParsed source u → t ≡ u
 
-pub unaccepted : OneTree → (source : List ℕ) (tree : SourceTree) → length source ≤ 1048576 → IsParsed source tree → HasNoSystem tree → IsUnaccepted source
+pub unaccepted : OneTree → (source : List ℕ) (tree : SourceTree) → length source ≤ most_source_bytes → IsParsed source tree → HasNoSystem tree → IsUnaccepted source
 unaccepted once source tree few t n = record {
   size = few;
   tree = tree;
@@ -56,10 +56,10 @@ unaccepted once source tree few t n = record {
   none = λ p s. n.none p (ap program_of (once source tree s.tree t s.parsed) ∙ s.is) s.rules.ports;
 }
 
-same_program : (p q : Program) → Some p ≡ Some q → p ≡ q
+same_program : (p q : LoweredProgram) → Some p ≡ Some q → p ≡ q
 same_program p q h = cc
 
-pub breaks_rules : OneTree → (source : List ℕ) (tree : SourceTree) (system : System) → length source ≤ 1048576 → IsParsed source tree → IsSystemOf tree system → (AllKeepStaticRules (map statement (domains_of system)) → ⊥) → IsUnaccepted source
+pub breaks_rules : OneTree → (source : List ℕ) (tree : SourceTree) (system : System) → length source ≤ most_source_bytes → IsParsed source tree → IsSystemOf tree system → (AllKeepStaticRules (map statement (domains_of system)) → ⊥) → IsUnaccepted source
 breaks_rules once source tree system few t r broken = record {
   size = few;
   tree = tree;
@@ -80,7 +80,7 @@ all_forms : (i : Interface) (ts : List Term) → AreBuilt i ts → list_all is_b
 all_forms i [] b = refl
 all_forms i (t ∷ ts) b = both (is_built t) (list_all is_built ts) b.0.forms (all_forms i ts b.1)
 
-pub accepts : (source : List ℕ) (tree : SourceTree) (system : System) → length source ≤ 1048576 → IsParsed source tree → IsSystemOf tree system → AllKeepStaticRules (map statement (domains_of system)) → Accepts source system
+pub accepts : (source : List ℕ) (tree : SourceTree) (system : System) → length source ≤ most_source_bytes → IsParsed source tree → IsSystemOf tree system → AllKeepStaticRules (map statement (domains_of system)) → Accepts source system
 accepts source tree system few t r k =
     let rules = subst (λ ts. AllKeepStaticRules (map statement ts)) r.domains k in
     record {

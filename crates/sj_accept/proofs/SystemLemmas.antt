@@ -23,7 +23,7 @@ use Rattle.kernel_terms.specs.WellFormed.{interface_names, has_names, is_within_
 use Rattle.sj_accept.specs.declared.owners.Role.{Role}
 use Rattle.sj_accept.specs.declared.owners.Role.TheVariants as role
 use Rattle.sj_accept.specs.BuiltTerms.{is_int, is_within, AreBuilt}
-use Rattle.sj_accept.specs.definitions.Ports.{Port, SignalPort, ChannelPort, Interface, port_interface, port_signals, port_channels, port_names}
+use Rattle.sj_accept.specs.definitions.Ports.{BuiltPort, BuiltSignal, BuiltChannel, Interface, port_interface, port_signals, port_channels, port_names}
 use Rattle.sj_accept.specs.definitions.Programs.{emits_of, sends_of, receives_of, first_with, owner_of, signals_from, channels_from, tables_for}
 use Rattle.sj_accept.specs.definitions.Accepted.{Uses, KeepsOwners}
 use Rattle.sj_accept.specs.Owners.{numbers_of, HasOwners, AreTablesOf}
@@ -78,19 +78,19 @@ channels_are : (f g : ℕ → ℕ) (k : ℕ) (names : List (List ℕ)) → map (
 channels_are f g k [] = refl
 channels_are f g k (n ∷ ns) = ap (λ l. n ∷ l) (channels_are f g (suc k) ns)
 
-signal_ports : (ports : List Port) → list_all is_name (port_names ports) ≡ true → list_all is_name (port_signals ports) ≡ true
+signal_ports : (ports : List BuiltPort) → list_all is_name (port_names ports) ≡ true → list_all is_name (port_signals ports) ≡ true
 signal_ports [] h = refl
-signal_ports (SignalPort n ∷ ports) h = let b = both (is_name n) (list_all is_name (port_names ports)) h in and_true (is_name n) (list_all is_name (port_signals ports)) b.0 (signal_ports ports b.1)
-signal_ports (ChannelPort n ∷ ports) h = signal_ports ports (both (is_name n) (list_all is_name (port_names ports)) h).1
+signal_ports (BuiltSignal n ∷ ports) h = let b = both (is_name n) (list_all is_name (port_names ports)) h in and_true (is_name n) (list_all is_name (port_signals ports)) b.0 (signal_ports ports b.1)
+signal_ports (BuiltChannel n ∷ ports) h = signal_ports ports (both (is_name n) (list_all is_name (port_names ports)) h).1
 
-channel_ports : (ports : List Port) → list_all is_name (port_names ports) ≡ true → list_all is_channel_name (port_channels ports) ≡ true
+channel_ports : (ports : List BuiltPort) → list_all is_name (port_names ports) ≡ true → list_all is_channel_name (port_channels ports) ≡ true
 channel_ports [] h = refl
-channel_ports (SignalPort n ∷ ports) h = channel_ports ports (both (is_name n) (list_all is_name (port_names ports)) h).1
-channel_ports (ChannelPort n ∷ ports) h =
+channel_ports (BuiltSignal n ∷ ports) h = channel_ports ports (both (is_name n) (list_all is_name (port_names ports)) h).1
+channel_ports (BuiltChannel n ∷ ports) h =
     let b = both (is_name n) (list_all is_name (port_names ports)) h in
     and_true (is_channel_name n) (list_all is_channel_name (port_channels ports)) (or_first (is_name n) (is_name (before_dot n) && is_place (after_dot n)) b.0) (channel_ports ports b.1)
 
-names_hold : (ports : List Port) (ps : List Stmt) → list_all is_name (port_names ports) ≡ true → are_distinct (port_names ports) ≡ true → has_names (tables_for (port_interface ports) ps) ≡ true
+names_hold : (ports : List BuiltPort) (ps : List Stmt) → list_all is_name (port_names ports) ≡ true → are_distinct (port_names ports) ≡ true → has_names (tables_for (port_interface ports) ps) ≡ true
 names_hold ports ps n d =
     let e = names_are (owner_of emits_of ps) 0 (port_signals ports) in
     let g = channels_are (owner_of sends_of ps) (owner_of receives_of ps) 0 (port_channels ports) in
@@ -280,7 +280,7 @@ all_parts : (i : Interface) (ts : List Term) → AreBuilt i ts → list_all has_
 all_parts i [] b = refl
 all_parts i (t ∷ ts) b = and_true (has_parts t) (list_all has_parts ts) b.0.parts (all_parts i ts b.1)
 
-is_system : (ports : List Port) (ts : List Term) → list_all is_name (port_names ports) ≡ true → are_distinct (port_names ports) ≡ true → length (port_interface ports).channels ≤ most_channels → 1 ≤ length ts → length ts ≤ most_domains
+is_system : (ports : List BuiltPort) (ts : List Term) → list_all is_name (port_names ports) ≡ true → are_distinct (port_names ports) ≡ true → length (port_interface ports).channels ≤ most_channels → 1 ≤ length ts → length ts ≤ most_domains
     → AreBuilt (port_interface ports) ts → KeepsOwners (port_interface ports) (map statement ts) → HasOwners role.Emitter (map statement ts) → HasOwners role.Sender (map statement ts) → HasOwners role.Receiver (map statement ts)
     → is_well_formed (tables_for (port_interface ports) (map statement ts)) ts ≡ true
 is_system ports ts n d c some few b k em se re =
@@ -294,7 +294,7 @@ is_system ports ts n d c some few b k em se re =
     (and_true (list_all has_parts ts) _ (all_parts i ts b)
     (and_true (fit_statements t 0 (map statement ts)) _ (fits_from i ps [] ts refl b em se re) (once i ps ts b)))))
 
-pub well_formed : (i : Interface) (ports : List Port) (ts : List Term) (tables : Tables) → i ≡ port_interface ports → list_all is_name (port_names ports) ≡ true → are_distinct (port_names ports) ≡ true → length i.channels ≤ most_channels
+pub well_formed : (i : Interface) (ports : List BuiltPort) (ts : List Term) (tables : Tables) → i ≡ port_interface ports → list_all is_name (port_names ports) ≡ true → are_distinct (port_names ports) ≡ true → length i.channels ≤ most_channels
     → 1 ≤ length ts → length ts ≤ most_domains → AreBuilt i ts → AreTablesOf i (map statement ts) tables → is_well_formed tables ts ≡ true
 well_formed i ports ts tables e n d c some few b a =
     ap (λ t. is_well_formed t ts) (a.is ∙ ap (λ x. tables_for x (map statement ts)) e)

@@ -1,9 +1,8 @@
 -- The tables of domains that keep the rules on owners.
-use Rattle.std.proofs.Common.{◌≡◌, ℕ, zero, suc, ◌+◌, ◌<◌, ◌≤◌, Bool, true, false, nat_eq, nat_lt, cond, List, [], ◌∷◌, length, map, drop, get_or, Option, Some, None, ap, refl, sym, ◌∙◌, subst, arith}
+use Rattle.std.proofs.Common.{◌≡◌, ℕ, zero, suc, ◌+◌, ◌<◌, ◌≤◌, Bool, true, false, nat_eq, nat_lt, cond, List, [], ◌∷◌, length, map, get_or, Option, Some, None, ap, refl, sym, ◌∙◌, subst, arith}
 use Rattle.std.proofs.lemmas.List.{length-map}
 use Rattle.std.specs.Prelude.{unwrap_or}
-use Rattle.std.specs.List.{count_by, sum_by}
-use Rattle.std.proofs.lemmas.List.Sums.{sum_by-cons}
+use Rattle.std.specs.List.{count_by}
 use Rattle.std.proofs.lemmas.Bool.Decides.{nat_tests}
 use Rattle.java_values.specs.declared.kind.Kind.TheVariants.{Int}
 use Rattle.kernel_terms.specs.declared.term.Term.{Term}
@@ -13,6 +12,7 @@ use Rattle.kernel_terms.specs.declared.tables.Combine.TheVariants.{Max}
 use Rattle.kernel_terms.specs.declared.tables.Tables.{Tables}
 use Rattle.kernel_terms.specs.Limits.{most_signals}
 use Rattle.kernel_terms.specs.TableEntries.{numbers_where}
+use Rattle.kernel_terms.proofs.SystemLimits.{numbers_count}
 use Rattle.sj_accept.specs.declared.owners.Role.{Role}
 use Rattle.sj_accept.specs.declared.owners.Role.TheVariants as role
 use Rattle.sj_accept.specs.BuiltTerms.{AreBuilt}
@@ -21,7 +21,7 @@ use Rattle.sj_accept.specs.definitions.Ports.{Interface}
 use Rattle.sj_accept.specs.definitions.Programs.{emits_of, sends_of, receives_of, owner_of, signals_from, channels_from, tables_for}
 use Rattle.sj_accept.specs.definitions.Accepted.{Uses, HasOne}
 use Rattle.sj_accept.specs.Owners.{numbers_of, limit_of, AreOwners, IsShared, owner_in, count_of, AreFewEach, IsFull, IsPair, AreChannels, IsUnpaired, AreTablesOf, BreaksOwners}
-use Rattle.sj_accept.proofs.OwnerLemmas.{same_default, some_same, uses_below, first_uses, stands_none}
+use Rattle.sj_accept.proofs.OwnerLemmas.{some_same, uses_below, first_uses, stands_none}
 
 lt_of : (a b : ℕ) → nat_lt a b ≡ true → a < b
 lt_of a b h = grind (arith, nat_tests)
@@ -56,19 +56,6 @@ pub pair_same : (a b : Option ℕ) (m n : ℕ) → a ≡ Some m → b ≡ Some n
 pair_same a b m n x y e p = p.apart (some_same p.from m (sym p.sends ∙ x) ∙ e ∙ some_same n p.to (sym y ∙ p.receives))
 
 pub ruleset pairing = (pair_none, pair_half, pair_same)
-
--- numbers, counted
-
-one_more : {X : Type 0} (p : X → Bool) (n : ℕ) (x : X) (xs : List X) (b : Bool) → p x ≡ b → length (numbers_where p (suc n) xs) ≡ count_by p xs → length (numbers_where p n (x ∷ xs)) ≡ count_by p (x ∷ xs)
-one_more p n x xs b e h = ap (λ c. length (cond c (n ∷ numbers_where p (suc n) xs) (numbers_where p (suc n) xs))) e ∙ by b ∙ sym (ap (λ c. cond c 1 0 + count_by p xs) e) ∙ sym (sum_by-cons (λ y. cond (p y) 1 0) x xs)
-  where
-    by : (c : Bool) → length (cond c (n ∷ numbers_where p (suc n) xs) (numbers_where p (suc n) xs)) ≡ cond c 1 0 + count_by p xs
-    by true = omega arith
-    by false = omega arith
-
-pub numbers_count : {X : Type 0} (p : X → Bool) (n : ℕ) (xs : List X) → length (numbers_where p n xs) ≡ count_by p xs
-numbers_count p n [] = refl
-numbers_count p n (x ∷ xs) = one_more p n x xs (p x) refl (numbers_count p (suc n) xs)
 
 -- the rules on owners
 

@@ -1,5 +1,5 @@
 -- What the steps of the lowering answer.
-use Rattle.std.specs.Prelude.{◌≡◌, ℕ, ◌≤◌, true, List, length, map, Some}
+use Rattle.std.specs.Prelude.{◌≡◌, ◌≤◌, true, List, length, map, Some}
 use Rattle.std.specs.List.{list_all}
 use Rattle.java_values.specs.Names.{is_name, are_distinct}
 use Rattle.kernel_terms.specs.declared.term.Term.{Term}
@@ -12,29 +12,29 @@ use Rattle.sj_accept.specs.Optional.{all_some, with_all}
 use Rattle.sj_accept.specs.BuiltTerms.{AreBuilt}
 use Rattle.sj_accept.specs.PortNames.{IsWithinLimits}
 use Rattle.sj_accept.specs.definitions.Sources.{SourceTree}
-use Rattle.sj_accept.specs.definitions.Ports.{Port, ports_of, port_names, Interface, port_interface}
+use Rattle.sj_accept.specs.definitions.Ports.{BuiltPort, built_ports, port_names, Interface, port_interface}
 use Rattle.sj_accept.specs.definitions.Lowering.{stmt_term, block_term}
-use Rattle.sj_accept.specs.definitions.Programs.{Program, program_of, tables_of_program}
+use Rattle.sj_accept.specs.definitions.Programs.{LoweredProgram, program_of, tables_of_program}
 use Rattle.sj_accept.specs.definitions.Accepted.{KeepsNamesAndOwners}
 
 -- Those before the rest of the ports have this interface. They are built and keep the rules on names.
 pub record PortsReach (all rest : List (port.Port Name)) (i : Interface) : Type 0 where
-  pub ports : List Port
+  pub ports : List BuiltPort
   pub interface : i ≡ port_interface ports
-  pub whole : ports_of all ≡ with_all ports (ports_of rest)
+  pub whole : built_ports all ≡ with_all ports (built_ports rest)
   pub distinct : are_distinct (port_names ports) ≡ true
   pub limits : IsWithinLimits i
 
 -- all of them do
 pub record AreNames (all : List (port.Port Name)) (i : Interface) : Type 0 where
-  pub ports : List Port
+  pub ports : List BuiltPort
   pub interface : i ≡ port_interface ports
-  pub is : ports_of all ≡ Some ports
+  pub is : built_ports all ≡ Some ports
   pub distinct : are_distinct (port_names ports) ≡ true
   pub limits : IsWithinLimits i
 
 pub record AreNoNames (all : List (port.Port Name)) : Type 0 where
-  pub none : (ports : List Port) → ports_of all ≡ Some ports → are_distinct (port_names ports) ≡ true → IsWithinLimits (port_interface ports) → ⊥
+  pub none : (ports : List BuiltPort) → built_ports all ≡ Some ports → are_distinct (port_names ports) ≡ true → IsWithinLimits (port_interface ports) → ⊥
 
 -- the terms of the statements before the rest
 pub record StatementsReach (i : Interface) (all rest : List SourceStmt) (terms : List Term) : Type 0 where
@@ -49,11 +49,11 @@ pub record DomainsReach (i : Interface) (all rest : List SourceBlock) (terms : L
 -- the names of the ports are names of the grammar, and there is a domain
 pub record IsWhole (tree : SourceTree) : Type 0 where
   pub some : 1 ≤ length tree.domains
-  pub named : (ports : List Port) → ports_of tree.ports ≡ Some ports → list_all is_name (port_names ports) ≡ true
+  pub named : (ports : List BuiltPort) → built_ports tree.ports ≡ Some ports → list_all is_name (port_names ports) ≡ true
 
 -- the system is that of the tree's program, which keeps the rules on ports
 pub record IsSystemOf (tree : SourceTree) (system : System) : Type 0 where
-  pub program : Program
+  pub program : LoweredProgram
   pub is : program_of tree ≡ Some program
   pub rules : KeepsNamesAndOwners program
   pub tables : tables_of system ≡ tables_of_program program
@@ -61,7 +61,7 @@ pub record IsSystemOf (tree : SourceTree) (system : System) : Type 0 where
   pub built : AreBuilt (port_interface program.ports) program.terms
 
 pub record HasNoSystem (tree : SourceTree) : Type 0 where
-  pub none : (p : Program) → program_of tree ≡ Some p → KeepsNamesAndOwners p → ⊥
+  pub none : (p : LoweredProgram) → program_of tree ≡ Some p → KeepsNamesAndOwners p → ⊥
 
 -- the terms of all domains
 pub record AreTermsOf (i : Interface) (all : List SourceBlock) (terms : List Term) : Type 0 where

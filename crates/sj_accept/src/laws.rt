@@ -4,7 +4,7 @@ ghost use Rattle.std.specs.Prelude.{◌≡◌, ℕ, List};
 ghost use Rattle.sj_accept.specs.Lowered.{IsWhole};
 ghost use Rattle.sj_accept.specs.declared.refusal.Refusal.{Refusal};
 ghost use Rattle.sj_accept.specs.definitions.Sources.{SourceTree, IsParsed};
-ghost use Rattle.sj_accept.specs.definitions.Programs.{Program};
+ghost use Rattle.sj_accept.specs.definitions.Programs.{LoweredProgram};
 ghost use Rattle.sj_accept.specs.definitions.Accepted.{IsSourceOf, IsAccepted};
 ghost use Rattle.sj_accept.specs.definitions.Refusals.{IsRefusedFor};
 
@@ -28,7 +28,7 @@ pub fn trees_are_whole()
 
 /// A source is the source of one program at most.
 pub fn sources_are_one_program()
-    ensures { (source : List ℕ) (p q : Program) → IsSourceOf source p → IsSourceOf source q → p ≡ q }
+    ensures { (source : List ℕ) (p q : LoweredProgram) → IsSourceOf source p → IsSourceOf source q → p ≡ q }
 {
     sources_are_one_tree();
 }

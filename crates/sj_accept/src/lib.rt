@@ -22,7 +22,7 @@ pub use laws::{
 };
 pub use refusal::{AcceptError, Refusal};
 pub use rows::small_refusals;
-pub use source::accept;
+pub use source::{MOST_SOURCE_BYTES, accept};
 
 #[cfg(test)]
 mod tests;

@@ -5,14 +5,12 @@ ghost use Rattle.sj_accept.specs.NamedNumbers.{AreNumbered};
 ghost use Rattle.sj_accept.specs.definitions.Lowering.{number_of};
 
 use java_values::NoMemory;
+use kernel_terms::{MOST_CHANNELS, MOST_DOMAINS, MOST_SIGNALS};
 use std::alloc::Global;
 use std::collections::BTreeMap;
 
-/// How many signals a program may have: 1,024 for each of 16 domains.
-const MOST_PROGRAM_SIGNALS: usize = 16_384;
-
-/// How many channels a program may have.
-const MOST_CHANNELS: usize = 64;
+/// How many signals a program may have, in all its domains.
+const MOST_PROGRAM_SIGNALS: usize = MOST_DOMAINS * MOST_SIGNALS;
 
 /// Names in order of declaration, and the number of each.
 #[derive(Drop)]

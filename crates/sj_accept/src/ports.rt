@@ -1,5 +1,5 @@
 ghost use Rattle.std.specs.Prelude.{◌≡◌, ◌<◌, ◌∷◌, ◌+◌, None, Some, IfOk, MatchOption};
-ghost use Rattle.sj_accept.specs.definitions.Ports.{pure_output, int_channel, port_of};
+ghost use Rattle.sj_accept.specs.definitions.Ports.{pure_output, int_channel, built_port};
 ghost use Rattle.sj_accept.specs.PortNames.{names_of, port_named};
 ghost use Rattle.sj_accept.specs.Lowered.{AreNames, AreNoNames};
 
@@ -54,7 +54,7 @@ fn int_channel<'a>(kind: Kind, name: &'a [u8]) -> Option<BuiltPort<'a>>
 }
 
 fn built_port(port: &Port<Name>) -> Option<BuiltPort<'_>>
-    ensures { MatchOption result (port_of port.now ≡ None) (λ p. port_of port.now ≡ Some (port_named p.kind p.name.now)) }
+    ensures { MatchOption result (built_port port.now ≡ None) (λ p. built_port port.now ≡ Some (port_named p.kind p.name.now)) }
 {
     match port {
         Port::Signal(port) => {

@@ -5,13 +5,10 @@ use crate::domains::domain_terms;
 use crate::ports::declared_names;
 use crate::tables::make_tables;
 use java_values::NoMemory;
-use kernel_terms::System;
+use kernel_terms::{MOST_DOMAINS, System};
 use sj_ast::{Name, Raw, Tree};
 use sqlite_items::Items;
 use std::alloc::Global;
-
-/// How many clock domains a program may have.
-const MOST_DOMAINS: usize = 16;
 
 /// The system of a tree, where its forms are built and it keeps the rules on ports.
 pub fn system_of(alloc: Global, tree: &Tree<Name, Raw<Name>>) -> Result<Option<System>, NoMemory>

@@ -1,10 +1,10 @@
 ghost use Rattle.std.specs.Prelude.{◌≤◌, ℕ, List, length, MatchResult};
+ghost use Rattle.java_values.specs.SourceLimits.{most_source_bytes};
 ghost use Rattle.sj_lexer.specs.declared.token.Token.{Token};
 ghost use Rattle.sj_lexer.specs.definitions.Readings.{AreTokens};
 ghost use Rattle.sj_lexer.specs.Lexing.{IsWhy};
 ghost use Rattle.stmt_parser.specs.definitions.Parsing.{IsNoProgram};
 ghost use Rattle.sj_accept.specs.definitions.Sources.{IsParsed};
-ghost use Rattle.sj_accept.specs.definitions.Accepted.{most_source_bytes};
 ghost use Rattle.sj_accept.specs.definitions.Systems.{Accepts};
 ghost use Rattle.sj_accept.specs.definitions.Refusals.{IsWhyNot};
 
@@ -39,6 +39,9 @@ fn parse_error(error: ParseError) -> AcceptError
         ParseError::NoMemory => AcceptError::NoMemory,
     }
 }
+
+/// How many bytes a source may have.
+pub const MOST_SOURCE_BYTES: usize = 1_048_576;
 
 /// The tree that the source is.
 fn read_tree(alloc: Global, source: &[u8]) -> Result<Tree<Name, Raw<Name>>, AcceptError>

@@ -9,12 +9,9 @@ ghost use Rattle.sj_accept.specs.Owners.{owner_in, count_of, AreFewEach, IsFull,
 use crate::names::{NameSet, Names};
 use crate::owners::{Role, owners};
 use java_values::{Kind, NoMemory, Text};
-use kernel_terms::{ChannelInfo, Combine, SignalInfo, Sort, Tables, Term};
+use kernel_terms::{ChannelInfo, Combine, MOST_SIGNALS, SignalInfo, Sort, Tables, Term};
 use sqlite_items::Items;
 use std::alloc::Global;
-
-/// How many signals may belong to one domain.
-const MOST_DOMAIN_SIGNALS: usize = 1024;
 
 /// The pure outputs of these names, each of its owner or of domain 0.
 fn make_signals(
@@ -58,7 +55,7 @@ fn few_each(signals: &[SignalInfo], domains: usize) -> bool
     ensures { MatchBool result (AreFewEach signals.now domains) (IsFull signals.now domains) }
 {
     for domain in 0..domains {
-        if count(signals, domain as u32) > MOST_DOMAIN_SIGNALS {
+        if count(signals, domain as u32) > MOST_SIGNALS {
             return false;
         }
     }

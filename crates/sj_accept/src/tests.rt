@@ -1,10 +1,10 @@
-use crate::{AcceptError, Refusal, accept};
+use crate::{AcceptError, MOST_SOURCE_BYTES, Refusal, accept};
 use std::alloc::{AllocError, Global};
 use std::test::Fail;
 
 // The refusal of a source; None where it is accepted.
 fn refusal_of(alloc: Global, source: &[u8]) -> Result<Option<Refusal>, Fail> {
-    if source.len() > 1_048_576 {
+    if source.len() > MOST_SOURCE_BYTES {
         return Ok(Some(Refusal::Later));
     }
     match accept(alloc, source) {

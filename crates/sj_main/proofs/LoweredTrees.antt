@@ -19,9 +19,9 @@ use Rattle.sj_ast.specs.declared.statement.Form.TheVariants.{rolls-Pause, rolls-
 use Rattle.sj_grammar.specs.definitions.Trees.{SourceForm, SourceStmt, SourceBlock}
 use Rattle.sj_accept.specs.Optional.{all_some, with_first}
 use Rattle.sj_accept.specs.definitions.Sources.{SourceTree}
-use Rattle.sj_accept.specs.definitions.Ports.{Interface, ports_of, port_interface}
+use Rattle.sj_accept.specs.definitions.Ports.{Interface, built_ports, port_interface}
 use Rattle.sj_accept.specs.definitions.Lowering.{term_at, block_of, number_of, int_literal, int_expression, emit_term, send_of, send_term, receive_term, loop_term, form_term, block_layer, stmt_layer, block_term, stmt_term}
-use Rattle.sj_accept.specs.definitions.Programs.{Program, program_of, with_ports, with_terms}
+use Rattle.sj_accept.specs.definitions.Programs.{LoweredProgram, program_of, with_ports, with_terms}
 use Rattle.sj_accept.proofs.TermLemmas.{statement-Send, literal_is}
 
 -- trees
@@ -118,7 +118,7 @@ block_then i at ss us bs ts l k = record { is = all_more (block_term i (block_at
 
 -- the program
 
-pub program_made : (tree : SourceTree) (p : Program) → ports_of tree.ports ≡ Some p.ports → LowersBlocks (port_interface p.ports) tree.domains p.terms → program_of tree ≡ Some p
+pub program_made : (tree : SourceTree) (p : LoweredProgram) → built_ports tree.ports ≡ Some p.ports → LowersBlocks (port_interface p.ports) tree.domains p.terms → program_of tree ≡ Some p
 program_made tree p h l = ap (with_ports tree.domains) h ∙ ap (with_terms p.ports) l.is
 
 -- statements of terms

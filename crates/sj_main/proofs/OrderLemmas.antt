@@ -20,11 +20,11 @@ use Rattle.sj_main.specs.declared.commands.Turns.TheVariants.{Rounds, Each}
 use Rattle.sj_main.specs.declared.order.Made.{Made}
 use Rattle.sj_main.specs.declared.order.OrderError.{OrderError}
 use Rattle.sj_main.specs.declared.order.OrderError.TheVariants.{Fault, Size, Refused, DomainsDoNotFit, OverWeight, NoMemory}
-use Rattle.sj_main.specs.Words.{AreFew}
+use Rattle.sj_main.specs.CommandWords.{AreFew}
 use Rattle.sj_accept.specs.definitions.Programs.{tables_of_program}
 use Rattle.sj_accept.specs.definitions.Systems.{Accepts}
 use Rattle.sj_main.proofs.SourceSystemLemmas.{same_setup, same_count}
-use Rattle.sj_main.specs.Orders.{IsMadeFrom, RunsTurns, WeighsTooMuch, IsWhyNoRun, IsWhy}
+use Rattle.sj_main.specs.OrderSteps.{IsMadeFrom, RunsTurns, WeighsTooMuch, IsWhyNoRun, IsWhyNotMade}
 use Rattle.sj_main.specs.definitions.Commands.{most_turns, rounds_of, turns_for, FitDomains, budgets_for}
 use Rattle.sj_main.specs.definitions.RunWeight.{run_weight, run_weight_of}
 use Rattle.sj_main.specs.definitions.Verdicts.{IsMisfit, IsOverweight}
@@ -195,7 +195,7 @@ overweight bytes system turns weight a w = record {
   above = w.above;
 }
 
-pub why : (bytes : List ℕ) (system : System) (turns : Turns) (e : OrderError) → Accepts bytes system → IsWhyNoRun system turns e → IsWhy bytes turns e
+pub why : (bytes : List ℕ) (system : System) (turns : Turns) (e : OrderError) → Accepts bytes system → IsWhyNoRun system turns e → IsWhyNotMade bytes turns e
 why bytes system turns Fault a w = absurd w
 why bytes system turns Size a w = absurd w
 why bytes system turns (Refused reason) a w = absurd w

@@ -3,13 +3,14 @@ use Rattle.std.proofs.Common.{◌≡◌, ◌≢◌, inl, inr, ◌⊎◌, ℕ, su
 use Rattle.std.proofs.lemmas.List.{length-set, get_or-replicate, get_or-set_same, get_or-set_other}
 use Rattle.std.specs.Prelude.{codes, Option, MatchOption}
 use Rattle.std.proofs.lemmas.Bool.Decides.{nat_tests}
+use Rattle.kernel_terms.specs.Limits.{most_domains}
 use Rattle.domain_core.specs.definitions.runs.Scheduled.{turns_of}
 use Rattle.sj_main.specs.declared.commands.Turns.{Turns}
 use Rattle.sj_main.specs.declared.commands.Turns.TheVariants.{Rounds, Each}
 use Rattle.java_values.specs.Names.{is_digit}
 use Rattle.sj_main.specs.definitions.Commands.{most_turns, number_from, whole_number, turn_text, turns_text, AreDomains, AreTurns, IsEach, IsRoundCount, IsTurns, IsOrder}
 use Rattle.sj_main.proofs.Budgets.{turns_of-append}
-use Rattle.sj_main.specs.Words.{BeginsTwo, NoTwo, EndsTurn, BeginsTurn, NoTurn, NoList, IsLast, IsMore, HasList, NoFewTurns, IsTurnList, TurnsReach, CountedTo, NoEach, HasEach, NoRounds, NoTurns, HasTurns, AreFew}
+use Rattle.sj_main.specs.CommandWords.{BeginsTwo, NoTwo, EndsTurn, BeginsTurn, NoTurn, NoList, IsLast, IsMore, HasList, NoFewTurns, IsTurnList, TurnsReach, CountedTo, NoEach, HasEach, NoRounds, NoTurns, HasTurns, AreFew}
 
 -- the text of one turn
 
@@ -44,7 +45,7 @@ two_short word n = record { none = λ b rest e low high. n 49 b rest e }
 
 pub ruleset two_steps = (two_is, two_not, two_short)
 
--- the turn at the front
+-- the first turn
 
 high_only : (word : List ℕ) (d : ℕ) (rest : List ℕ) → BeginsTwo word d rest → (t : ℕ) (after : List ℕ) → (t < 10) ⊎ (10 ≤ t) → EndsTurn after → word ≡ turn_text t ++ after → (t ≡ d) × (after ≡ rest)
 high_only word d rest b t after (inl l) ends h =
@@ -62,7 +63,7 @@ first_two word d rest b = record {
   only = λ t after l ends h. high_only word d rest b t after (low_or_high t) ends h;
 }
 
-low_only : (word : List ℕ) (b : ℕ) (rest : List ℕ) → NoTwo word → word ≡ b ∷ rest → (t : ℕ) (after : List ℕ) → (t < 10) ⊎ (10 ≤ t) → t < 16 → word ≡ turn_text t ++ after → (48 + t ≡ b) × (after ≡ rest)
+low_only : (word : List ℕ) (b : ℕ) (rest : List ℕ) → NoTwo word → word ≡ b ∷ rest → (t : ℕ) (after : List ℕ) → (t < 10) ⊎ (10 ≤ t) → t < most_domains → word ≡ turn_text t ++ after → (48 + t ≡ b) × (after ≡ rest)
 low_only word b rest n e t after (inl l) below h = heads (48 + t) b after rest (sym (text_low t after l) ∙ sym h ∙ e)
 low_only word b rest n e t after (inr l) below h = absurd (n.none (38 + t) after (h ∙ text_high t after l) (omega arith) (omega arith))
 
@@ -85,7 +86,7 @@ first_empty word e = record { none = λ t after l h. text_some t after (low_or_h
 pub first_other : (word : List ℕ) (b : ℕ) (rest : List ℕ) → NoTwo word → word ≡ b ∷ rest → (48 ≤ b → b ≤ 57 → ⊥) → NoTurn word
 first_other word b rest n e o = record { none = λ t after l h. stop t after (low_or_high t) l h }
   where
-    stop : (t : ℕ) (after : List ℕ) → (t < 10) ⊎ (10 ≤ t) → t < 16 → word ≡ turn_text t ++ after → ⊥
+    stop : (t : ℕ) (after : List ℕ) → (t < 10) ⊎ (10 ≤ t) → t < most_domains → word ≡ turn_text t ++ after → ⊥
     stop t after (inl g) l h = let k = (low_only word b rest n e t after (inl g) l h).0 in o (omega arith) (omega arith)
     stop t after (inr g) l h = n.none (38 + t) after (h ∙ text_high t after g) (omega arith) (omega arith)
 
@@ -162,31 +163,31 @@ pub ruleset list_steps = (list_none, list_last, list_more, list_other)
 pub turns_start : (word turns : List ℕ) → turns ≡ [] → TurnsReach word turns word
 turns_start word turns e = rw e (record { there = λ t ts h. (t, ts, refl, h); back = λ u us a h. (u, us, refl, h); domains = tt })
 
-domains_push : (ts : List ℕ) (d : ℕ) → AreDomains ts → d < 16 → AreDomains (ts ++ d ∷ [])
+domains_push : (ts : List ℕ) (d : ℕ) → AreDomains ts → d < most_domains → AreDomains (ts ++ d ∷ [])
 domains_push [] d a l = (l, tt)
 domains_push (t ∷ ts) d a l = (a.0, domains_push ts d a.1 l)
 
-domains_later : (xs : List ℕ) (t : ℕ) (ts : List ℕ) → AreDomains (xs ++ t ∷ ts) → t < 16
+domains_later : (xs : List ℕ) (t : ℕ) (ts : List ℕ) → AreDomains (xs ++ t ∷ ts) → t < most_domains
 domains_later [] t ts a = a.0
 domains_later (x ∷ xs) t ts a = domains_later xs t ts a.1
 
-turn_at : (word turns front : List ℕ) (u t : ℕ) (us ts : List ℕ) → AreDomains (u ∷ us) → u ∷ us ≡ turns ++ t ∷ ts → t < 16
-turn_at word turns front u t us ts a e = let P : List ℕ → Type 0 = λ l. AreDomains l in domains_later turns t ts (subst P e a)
+turn_at : (word turns rest : List ℕ) (u t : ℕ) (us ts : List ℕ) → AreDomains (u ∷ us) → u ∷ us ≡ turns ++ t ∷ ts → t < most_domains
+turn_at word turns rest u t us ts a e = let P : List ℕ → Type 0 = λ l. AreDomains l in domains_later turns t ts (subst P e a)
 
-pub turns_more : (word front rest turns new : List ℕ) (d : ℕ) → TurnsReach word turns front → IsMore front d rest → new ≡ turns ++ d ∷ [] → TurnsReach word new rest
-turns_more word front rest turns new d r m e = rw e (record {
+pub turns_more : (word rest after turns new : List ℕ) (d : ℕ) → TurnsReach word turns rest → IsMore rest d after → new ≡ turns ++ d ∷ [] → TurnsReach word new after
+turns_more word rest after turns new d r m e = rw e (record {
   there = λ t ts h. (let k = r.there d (t ∷ ts) (m.is ∙ ap (λ l. turn_text d ++ 44 ∷ l) h) in (k.0, k.1, append_assoc turns (d ∷ []) (t ∷ ts) ∙ k.2, k.3));
-  back = λ u us a h. (let k = r.back u us a h in let o = m.only k.0 k.1 (turn_at word turns front u k.0 us k.1 a k.2) k.3 in (o.1, o.2, k.2 ∙ ap (λ x. turns ++ x ∷ k.1) o.0 ∙ ap (λ x. turns ++ d ∷ x) o.3 ∙ sym (append_assoc turns (d ∷ []) (o.1 ∷ o.2)), o.4));
+  back = λ u us a h. (let k = r.back u us a h in let o = m.only k.0 k.1 (turn_at word turns rest u k.0 us k.1 a k.2) k.3 in (o.1, o.2, k.2 ∙ ap (λ x. turns ++ x ∷ k.1) o.0 ∙ ap (λ x. turns ++ d ∷ x) o.3 ∙ sym (append_assoc turns (d ∷ []) (o.1 ∷ o.2)), o.4));
   domains = domains_push turns d r.domains m.below;
 })
 
-pub turns_stop : (word front turns : List ℕ) → TurnsReach word turns front → NoList front → HasList word → ⊥
-turns_stop word front turns r n h =
+pub turns_stop : (word rest turns : List ℕ) → TurnsReach word turns rest → NoList rest → HasList word → ⊥
+turns_stop word rest turns r n h =
     let k = r.back h.first h.others h.domains h.is in
-    n.none k.0 k.1 (turn_at word turns front h.first k.0 h.others k.1 h.domains k.2) k.3
+    n.none k.0 k.1 (turn_at word turns rest h.first k.0 h.others k.1 h.domains k.2) k.3
 
-pub turns_last : (word front turns new : List ℕ) (d : ℕ) → TurnsReach word turns front → IsLast front d → new ≡ turns ++ d ∷ [] → IsTurnList word new
-turns_last word front turns new d r l e =
+pub turns_last : (word rest turns new : List ℕ) (d : ℕ) → TurnsReach word turns rest → IsLast rest d → new ≡ turns ++ d ∷ [] → IsTurnList word new
+turns_last word rest turns new d r l e =
     let k = r.there d [] l.is in
     rw e (record {
       first = k.0;
@@ -194,15 +195,15 @@ turns_last word front turns new d r l e =
       list = k.2;
       is = k.3;
       domains = domains_push turns d r.domains l.below;
-      only = λ u us a h. (let m = r.back u us a h in let o = l.only m.0 m.1 (turn_at word turns front u m.0 us m.1 a m.2) m.3 in m.2 ∙ ap (λ x. turns ++ x ∷ m.1) o.0 ∙ ap (λ x. turns ++ d ∷ x) o.1);
+      only = λ u us a h. (let m = r.back u us a h in let o = l.only m.0 m.1 (turn_at word turns rest u m.0 us m.1 a m.2) m.3 in m.2 ∙ ap (λ x. turns ++ x ∷ m.1) o.0 ∙ ap (λ x. turns ++ d ∷ x) o.1);
     })
 
 text_length : (t : ℕ) (after : List ℕ) → (t < 10) ⊎ (10 ≤ t) → length after < length (turn_text t ++ after)
 text_length t after (inl l) = let k = ap length (text_low t after l) in omega arith
 text_length t after (inr l) = let k = ap length (text_high t after l) in omega arith
 
-pub list_shorter : (front rest : List ℕ) (d : ℕ) → IsMore front d rest → length rest < length front
-list_shorter front rest d m = let a = ap length m.is in let b = text_length d (44 ∷ rest) (low_or_high d) in omega arith
+pub list_shorter : (rest after : List ℕ) (d : ℕ) → IsMore rest d after → length after < length rest
+list_shorter rest after d m = let a = ap length m.is in let b = text_length d (44 ∷ after) (low_or_high d) in omega arith
 
 pub ruleset read_steps = (turns_start, turns_more, turns_stop, turns_last, list_shorter)
 
@@ -217,13 +218,13 @@ same_of a b h = grind (arith, nat_tests)
 apart_of : (a b : ℕ) → nat_eq a b ≡ false → b ≢ a
 apart_of a b h e = let k : nat_eq a b ≡ true = grind (arith, nat_tests) in let z : true ≡ false = sym k ∙ h in cc
 
-pub check_start : (word counts : List ℕ) → counts ≡ replicate 16 0 → CountedTo word word counts
+pub check_start : (word counts : List ℕ) → counts ≡ replicate most_domains 0 → CountedTo word word counts
 check_start word counts e = record {
   turns = [];
   reach = turns_start word [] refl;
   size = ap length e;
-  each = λ d l. ap (λ c. get_or c d 0) e ∙ get_or-replicate 16 d 0 0 l;
-  few = λ d l. (let z : get_or counts d 0 ≡ 0 = ap (λ c. get_or c d 0) e ∙ get_or-replicate 16 d 0 0 l in omega arith);
+  each = λ d l. ap (λ c. get_or c d 0) e ∙ get_or-replicate most_domains d 0 0 l;
+  few = λ d l. (let z : get_or counts d 0 ≡ 0 = ap (λ c. get_or c d 0) e ∙ get_or-replicate most_domains d 0 0 l in omega arith);
 }
 
 counted_push : (d t : ℕ) (ts : List ℕ) (b : Bool) → nat_eq t d ≡ b → turns_of d (ts ++ t ∷ []) ≡ cond b (suc (turns_of d ts)) (turns_of d ts)
@@ -235,7 +236,7 @@ pub record IsRaised (counts new : List ℕ) (d : ℕ) : Type 0 where
   pub room : get_or counts d 0 < most_turns
   pub is : new ≡ set counts d (get_or counts d 0 + 1)
 
-raised_each : (turns counts new : List ℕ) (t d : ℕ) (b : Bool) → length counts ≡ 16 → t < 16 → ((e : ℕ) → e < 16 → get_or counts e 0 ≡ turns_of e turns) → IsRaised counts new t → nat_eq t d ≡ b → d < 16 → get_or new d 0 ≡ turns_of d (turns ++ t ∷ [])
+raised_each : (turns counts new : List ℕ) (t d : ℕ) (b : Bool) → length counts ≡ most_domains → t < most_domains → ((e : ℕ) → e < most_domains → get_or counts e 0 ≡ turns_of e turns) → IsRaised counts new t → nat_eq t d ≡ b → d < most_domains → get_or new d 0 ≡ turns_of d (turns ++ t ∷ [])
 raised_each turns counts new t d true size l each r e m =
     let s = same_of t d e in
     let k : get_or new d 0 ≡ get_or counts t 0 + 1 = ap (λ c. get_or c d 0) r.is ∙ ap (λ x. get_or (set counts t (get_or counts t 0 + 1)) x 0) (sym s) ∙ get_or-set_same counts t (get_or counts t 0 + 1) 0 (omega arith) in
@@ -245,7 +246,7 @@ raised_each turns counts new t d true size l each r e m =
 raised_each turns counts new t d false size l each r e m =
     ap (λ c. get_or c d 0) r.is ∙ get_or-set_other counts t d (get_or counts t 0 + 1) 0 (apart_of t d e) ∙ each d m ∙ sym (counted_push d t turns false e)
 
-raised_few : (counts new : List ℕ) (t d : ℕ) (b : Bool) → length counts ≡ 16 → t < 16 → ((e : ℕ) → e < 16 → get_or counts e 0 ≤ most_turns) → IsRaised counts new t → nat_eq t d ≡ b → d < 16 → get_or new d 0 ≤ most_turns
+raised_few : (counts new : List ℕ) (t d : ℕ) (b : Bool) → length counts ≡ most_domains → t < most_domains → ((e : ℕ) → e < most_domains → get_or counts e 0 ≤ most_turns) → IsRaised counts new t → nat_eq t d ≡ b → d < most_domains → get_or new d 0 ≤ most_turns
 raised_few counts new t d true size l few r e m =
     let s = same_of t d e in
     let k : get_or new d 0 ≡ get_or counts t 0 + 1 = ap (λ c. get_or c d 0) r.is ∙ ap (λ x. get_or (set counts t (get_or counts t 0 + 1)) x 0) (sym s) ∙ get_or-set_same counts t (get_or counts t 0 + 1) 0 (omega arith) in
@@ -254,29 +255,29 @@ raised_few counts new t d false size l few r e m =
     let k : get_or new d 0 ≡ get_or counts d 0 = ap (λ c. get_or c d 0) r.is ∙ get_or-set_other counts t d (get_or counts t 0 + 1) 0 (apart_of t d e) in
     omega (arith, few d m)
 
-pub check_more : (word front rest counts new : List ℕ) (d : ℕ) → CountedTo word front counts → IsMore front d rest → IsRaised counts new d → CountedTo word rest new
-check_more word front rest counts new d c m r = record {
+pub check_more : (word rest after counts new : List ℕ) (d : ℕ) → CountedTo word rest counts → IsMore rest d after → IsRaised counts new d → CountedTo word after new
+check_more word rest after counts new d c m r = record {
   turns = c.turns ++ d ∷ [];
-  reach = turns_more word front rest c.turns (c.turns ++ d ∷ []) d c.reach m refl;
+  reach = turns_more word rest after c.turns (c.turns ++ d ∷ []) d c.reach m refl;
   size = ap length r.is ∙ length-set counts d (get_or counts d 0 + 1) ∙ c.size;
   each = λ e l. raised_each c.turns counts new d e (nat_eq d e) c.size m.below c.each r refl l;
   few = λ e l. raised_few counts new d e (nat_eq d e) c.size m.below c.few r refl l;
 }
 
 -- no domain past the last has a turn
-count_none : (d : ℕ) (ts : List ℕ) → AreDomains ts → 16 ≤ d → turns_of d ts ≡ 0
+count_none : (d : ℕ) (ts : List ℕ) → AreDomains ts → most_domains ≤ d → turns_of d ts ≡ 0
 count_none d [] a h = refl
 count_none d (t ∷ ts) a h =
     let l = a.0 in
     let e : nat_eq t d ≡ false = grind (arith, nat_tests) in
     ap (λ b. cond b (suc (turns_of d ts)) (turns_of d ts)) e ∙ count_none d ts a.1 h
 
-few_all : (ts : List ℕ) → AreDomains ts → ((d : ℕ) → d < 16 → turns_of d ts ≤ most_turns) → (d : ℕ) → turns_of d ts ≤ most_turns
-few_all ts a f d = by (nat_lt d 16) refl
+few_all : (ts : List ℕ) → AreDomains ts → ((d : ℕ) → d < most_domains → turns_of d ts ≤ most_turns) → (d : ℕ) → turns_of d ts ≤ most_turns
+few_all ts a f d = by (nat_lt d most_domains) refl
   where
-    by : (b : Bool) → nat_lt d 16 ≡ b → turns_of d ts ≤ most_turns
-    by true h = f d (lt_of d 16 h)
-    by false h = let l : 16 ≤ d = grind (arith, nat_tests) in let e = count_none d ts a l in omega arith
+    by : (b : Bool) → nat_lt d most_domains ≡ b → turns_of d ts ≤ most_turns
+    by true h = f d (lt_of d most_domains h)
+    by false h = let l : most_domains ≤ d = grind (arith, nat_tests) in let e = count_none d ts a l in omega arith
 
 list_of : (word : List ℕ) (turns : List ℕ) → IsTurnList word turns → ((d : ℕ) → turns_of d turns ≤ most_turns) → HasList word
 list_of word turns l few = record {
@@ -287,17 +288,17 @@ list_of word turns l few = record {
   few = λ d. (let z = ap (turns_of d) l.list in omega (arith, few d));
 }
 
-check_last : (word front counts new : List ℕ) (d : ℕ) → CountedTo word front counts → IsLast front d → IsRaised counts new d → HasList word
-check_last word front counts new d c l r =
+check_last : (word rest counts new : List ℕ) (d : ℕ) → CountedTo word rest counts → IsLast rest d → IsRaised counts new d → HasList word
+check_last word rest counts new d c l r =
     let all = c.turns ++ d ∷ [] in
-    let list = turns_last word front c.turns all d c.reach l refl in
+    let list = turns_last word rest c.turns all d c.reach l refl in
     list_of word all list (few_all all list.domains (λ e m.
     let a = raised_each c.turns counts new d e (nat_eq d e) c.size l.below c.each r refl m in
     let b = raised_few counts new d e (nat_eq d e) c.size l.below c.few r refl m in
     omega arith))
 
-pub check_stop : (word front counts : List ℕ) → CountedTo word front counts → NoList front → NoFewTurns word
-check_stop word front counts c n = record { none = λ u us a few h. (let k = c.reach.back u us a h in n.none k.0 k.1 (turn_at word c.turns front u k.0 us k.1 a k.2) k.3) }
+pub check_stop : (word rest counts : List ℕ) → CountedTo word rest counts → NoList rest → NoFewTurns word
+check_stop word rest counts c n = record { none = λ u us a few h. (let k = c.reach.back u us a h in n.none k.0 k.1 (turn_at word c.turns rest u k.0 us k.1 a k.2) k.3) }
 
 too_many : (word : List ℕ) (turns : List ℕ) (u : ℕ) (us : List ℕ) (d : ℕ) (ts : List ℕ) → u ∷ us ≡ turns ++ d ∷ ts → turns_of d turns ≡ most_turns → turns_of d (u ∷ us) ≤ most_turns → ⊥
 too_many word turns u us d ts e m few =
@@ -307,31 +308,31 @@ too_many word turns u us d ts e m few =
     let f : turns_of d (d ∷ ts) ≡ suc (turns_of d ts) = ap (λ x. cond x (suc (turns_of d ts)) (turns_of d ts)) c in
     omega arith
 
-many_more : (word front rest counts : List ℕ) (d : ℕ) → CountedTo word front counts → IsMore front d rest → get_or counts d 0 ≡ most_turns → NoFewTurns word
-many_more word front rest counts d c m e = record {
+many_more : (word rest after counts : List ℕ) (d : ℕ) → CountedTo word rest counts → IsMore rest d after → get_or counts d 0 ≡ most_turns → NoFewTurns word
+many_more word rest after counts d c m e = record {
   none = λ u us a few h.
       (let k = c.reach.back u us a h in
-      let o = m.only k.0 k.1 (turn_at word c.turns front u k.0 us k.1 a k.2) k.3 in
+      let o = m.only k.0 k.1 (turn_at word c.turns rest u k.0 us k.1 a k.2) k.3 in
       too_many word c.turns u us d k.1 (k.2 ∙ ap (λ x. c.turns ++ x ∷ k.1) o.0) (sym (c.each d m.below) ∙ e) (few d));
 }
 
-many_last : (word front counts : List ℕ) (d : ℕ) → CountedTo word front counts → IsLast front d → get_or counts d 0 ≡ most_turns → NoFewTurns word
-many_last word front counts d c l e = record {
+many_last : (word rest counts : List ℕ) (d : ℕ) → CountedTo word rest counts → IsLast rest d → get_or counts d 0 ≡ most_turns → NoFewTurns word
+many_last word rest counts d c l e = record {
   none = λ u us a few h.
       (let k = c.reach.back u us a h in
-      let o = l.only k.0 k.1 (turn_at word c.turns front u k.0 us k.1 a k.2) k.3 in
+      let o = l.only k.0 k.1 (turn_at word c.turns rest u k.0 us k.1 a k.2) k.3 in
       too_many word c.turns u us d k.1 (k.2 ∙ ap (λ x. c.turns ++ x ∷ k.1) o.0) (sym (c.each d l.below) ∙ e) (few d));
 }
 
-pub check_many : {A : Type 0} (now : A → List ℕ) (word front counts : List ℕ) (d : ℕ) (after : Option A) → CountedTo word front counts → MatchOption after (IsLast front d) (λ rest. IsMore front d (now rest)) → get_or counts d 0 ≡ most_turns → NoFewTurns word
-check_many now word front counts d None c l e = many_last word front counts d c l e
-check_many now word front counts d (Some rest) c m e = many_more word front (now rest) counts d c m e
+pub check_many : {A : Type 0} (now : A → List ℕ) (word rest counts : List ℕ) (d : ℕ) (next : Option A) → CountedTo word rest counts → MatchOption next (IsLast rest d) (λ after. IsMore rest d (now after)) → get_or counts d 0 ≡ most_turns → NoFewTurns word
+check_many now word rest counts d None c l e = many_last word rest counts d c l e
+check_many now word rest counts d (Some after) c m e = many_more word rest (now after) counts d c m e
 
-pub check_end : (word front counts : List ℕ) (d : ℕ) → CountedTo word front counts → IsLast front d → get_or counts d 0 ≢ most_turns → HasList word
-check_end word front counts d c l r =
+pub check_end : (word rest counts : List ℕ) (d : ℕ) → CountedTo word rest counts → IsLast rest d → get_or counts d 0 ≢ most_turns → HasList word
+check_end word rest counts d c l r =
     let below = l.below in
     let room : get_or counts d 0 < most_turns = omega (arith, c.few d below) in
-    check_last word front counts (set counts d (get_or counts d 0 + 1)) d c l (record { room = room; is = refl })
+    check_last word rest counts (set counts d (get_or counts d 0 + 1)) d c l (record { room = room; is = refl })
 
 pub ruleset check_steps = (check_start, check_more, list_shorter)
 

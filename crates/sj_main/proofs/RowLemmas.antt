@@ -19,7 +19,7 @@ use Rattle.domain_core.proofs.lemmas.runs.WorkedRuns.{env_in, ticked, takes_turn
 use Rattle.sj_main.specs.declared.commands.Turns.{Turns}
 use Rattle.sj_main.specs.declared.commands.Turns.TheVariants.{Each}
 use Rattle.sj_accept.specs.definitions.Ports.{port_interface}
-use Rattle.sj_accept.specs.definitions.Programs.{Program, domain_statements, tables_for}
+use Rattle.sj_accept.specs.definitions.Programs.{LoweredProgram, domain_statements, tables_for}
 use Rattle.sj_accept.specs.definitions.Accepted.{IsSourceOf}
 use Rattle.sj_main.specs.definitions.Commands.{turns_for, FitDomains, budgets_for}
 use Rattle.sj_main.specs.definitions.RunWeight.{most_run_weight, run_weight}
@@ -68,7 +68,7 @@ waitless_at [] d a = record { sends = λ c v w. w; receives = λ c w. w }
 waitless_at (p ∷ ps) zero a = a.0
 waitless_at (p ∷ ps) (suc d) a = waitless_at ps d a.1
 
-pub fresh : (p : Program) (ps : List Stmt) → AreWaitless ps → IsFresh (setup_with p ps)
+pub fresh : (p : LoweredProgram) (ps : List Stmt) → AreWaitless ps → IsFresh (setup_with p ps)
 fresh p ps a = record { sends = λ d c v w. (waitless_at ps d a).sends c v w; receives = λ d c w. (waitless_at ps d a).receives c w }
 
 -- turns that are taken
@@ -103,12 +103,12 @@ pub record IsShownBy (p : Setup) (run : RunState) (turns : List ℕ) (end : Syst
   pub marks : (d : ℕ) → d < domain_count p → (log_of run d).mark ≡ (end.domain d).mark
 
 -- the turns fit so many domains, and their run isn't too heavy
-pub record IsLight (p : Program) (ps : List Stmt) (turns : Turns) : Type 0 where
+pub record IsLight (p : LoweredProgram) (ps : List Stmt) (turns : Turns) : Type 0 where
   pub fit : FitDomains turns (length ps)
   pub weight : run_weight (tables_for (port_interface p.ports) ps) (budgets_for turns (length ps)) ≤ most_run_weight
 
 -- the run of a source, whose domains have these statements, is told by its turns
-pub told_run : (bytes : List ℕ) (turns : Turns) (text : List ℕ) (p : Program) (ps : List Stmt) (run : RunState) (end : SystemState) → IsSourceOf bytes p → domain_statements p ≡ ps → IsLight p ps turns → IsSystem (setup_with p ps) → AreWaitless ps
+pub told_run : (bytes : List ℕ) (turns : Turns) (text : List ℕ) (p : LoweredProgram) (ps : List Stmt) (run : RunState) (end : SystemState) → IsSourceOf bytes p → domain_statements p ≡ ps → IsLight p ps turns → IsSystem (setup_with p ps) → AreWaitless ps
     → Fits (setup_with p ps) run → IsShownBy (setup_with p ps) run (turns_for turns (length ps)) end → text ≡ run_text (tables_for (port_interface p.ports) ps) run → IsTextOfRun bytes turns text
 told_run bytes turns text p ps run end source statements light system waitless fits shown is =
     let setup = setup_with p ps in

@@ -1,20 +1,17 @@
 -- What a run may weigh at most, and how its weight is summed.
-use Rattle.std.proofs.Common.{◌≡◌, ℕ, suc, ◌+◌, ◌*◌, ◌<◌, ◌≤◌, Bool, true, false, ◌&&◌, nat_le, cond, List, [], ◌∷◌, length, get_or, take, arith, refl, sym, ap, ◌∙◌, subst}
-use Rattle.std.specs.List.{range_with_len, sum_by, count_by, All}
+use Rattle.std.proofs.Common.{◌≡◌, ℕ, ◌+◌, ◌*◌, ◌<◌, ◌≤◌, Bool, List, length, get_or, take, arith, sym, ap, ◌∙◌, subst}
+use Rattle.std.specs.List.{range_with_len, sum_by, All}
 use Rattle.std.proofs.Math.Nat.{mul-le-mul}
-use Rattle.std.proofs.lemmas.Bool.Decides.{nat_tests}
 use Rattle.std.specs.Prelude.{slice_index_or}
-use Rattle.std.proofs.lemmas.List.Sums.{count_by-le-length, sum_by_more, sum_by_more_le, sum_by-cons, sum_by-le}
+use Rattle.std.proofs.lemmas.List.Sums.{count_by-le-length, sum_by_more, sum_by_more_le, sum_by-le}
 use Rattle.std.proofs.lemmas.List.{take_all}
 use Rattle.std.proofs.lemmas.List.FromFn.{length-range_with_len, get_or-range_with_len}
 use Rattle.kernel_terms.specs.declared.tables.Tables.{Tables}
 use Rattle.kernel_terms.specs.declared.system.System.{System}
 use Rattle.kernel_terms.specs.Systems.{tables_of, domains_of}
-use Rattle.kernel_terms.specs.Limits.{most_domains, most_channels}
+use Rattle.kernel_terms.specs.Limits.{most_domains, most_channels, most_signals}
 use Rattle.kernel_terms.specs.TableEntries.{interface_of, numbers_where}
-use Rattle.kernel_terms.specs.WellFormed.{is_within_limits, has_names, is_well_formed}
-use Rattle.tick_log.proofs.SignalCountLemmas.{few_signals}
-use Rattle.sj_accept.proofs.TableLemmas.{numbers_count}
+use Rattle.kernel_terms.proofs.SystemLimits.{numbers_count, few_domains, few_channels, few_signals}
 use Rattle.sj_main.specs.definitions.Commands.{most_turns}
 use Rattle.sj_main.specs.definitions.RunWeight.{domain_weight, channel_weight}
 
@@ -25,31 +22,6 @@ numbers_within p n xs = let a = numbers_count p n xs in let b = count_by-le-leng
 
 pub ruleset counting_numbers = (numbers_count, numbers_within)
 
--- the limits of a system
-
-both_left : (a b : Bool) → a && b ≡ true → a ≡ true
-both_left true b h = refl
-both_left false b h = h
-
-both_right : (a b : Bool) → a && b ≡ true → b ≡ true
-both_right true b h = h
-both_right false b h = cc
-
-within : (system : System) → is_within_limits (tables_of system) (length (domains_of system)) ≡ true
-within system =
-    let t = tables_of system in
-    let well : is_well_formed t (domains_of system) ≡ true = system.well_formed in
-    both_left _ _ (both_right (has_names t) _ well)
-
-le_of : (a b : ℕ) → nat_le a b ≡ true → a ≤ b
-le_of a b h = grind (arith, nat_tests)
-
-pub few_domains : (system : System) → length (domains_of system) ≤ most_domains
-few_domains system = le_of (length (domains_of system)) most_domains (both_left _ _ (within system))
-
-few_channels : (system : System) → length (tables_of system).channels ≤ most_channels
-few_channels system = le_of (length (tables_of system).channels) most_channels (both_left _ _ (both_right (nat_le (length (domains_of system)) most_domains) _ (within system)))
-
 -- bounds
 
 pub record HasFew (budgets : List ℕ) : Type 0 where
@@ -58,24 +30,24 @@ pub record HasFew (budgets : List ℕ) : Type 0 where
 product_small : (a b c d : ℕ) → a ≤ c → b ≤ d → a * b ≤ c * d
 product_small a b c d h k = mul-le-mul h k
 
-pub domains_small : (system : System) (budgets : List ℕ) → length budgets ≡ length (domains_of system) → HasFew budgets → sum_by (domain_weight (tables_of system) budgets) (range_with_len 0 (length budgets)) ≤ 16 * (100000 * 1025)
+pub domains_small : (system : System) (budgets : List ℕ) → length budgets ≡ length (domains_of system) → HasFew budgets → sum_by (domain_weight (tables_of system) budgets) (range_with_len 0 (length budgets)) ≤ most_domains * (most_turns * (most_signals + 1))
 domains_small system budgets same few =
     let n = length budgets in
     let t = tables_of system in
-    let all : All (λ d. domain_weight t budgets d ≤ 100000 * 1025) (range_with_len 0 n) = λ k d l. at k (get_or (range_with_len 0 n) k d) (get_or-range_with_len 0 n k d (omega (arith, length-range_with_len 0 n))) (omega (arith, length-range_with_len 0 n)) in
-    let a = sum_by-le (domain_weight t budgets) (100000 * 1025) (range_with_len 0 n) all in
-    let b = product_small (length (range_with_len 0 n)) (100000 * 1025) 16 (100000 * 1025) (omega (arith, length-range_with_len 0 n, few_domains system)) (omega arith) in
+    let all : All (λ d. domain_weight t budgets d ≤ most_turns * (most_signals + 1)) (range_with_len 0 n) = λ k d l. at k (get_or (range_with_len 0 n) k d) (get_or-range_with_len 0 n k d (omega (arith, length-range_with_len 0 n))) (omega (arith, length-range_with_len 0 n)) in
+    let a = sum_by-le (domain_weight t budgets) (most_turns * (most_signals + 1)) (range_with_len 0 n) all in
+    let b = product_small (length (range_with_len 0 n)) (most_turns * (most_signals + 1)) most_domains (most_turns * (most_signals + 1)) (omega (arith, length-range_with_len 0 n, few_domains system)) (omega arith) in
     omega (arith, a, b)
   where
-    at : (k d : ℕ) → d ≡ 0 + k → k < length budgets → domain_weight (tables_of system) budgets d ≤ 100000 * 1025
-    at k d e l = product_small (get_or budgets d 0) (length (interface_of (tables_of system) d) + 1) 100000 1025 (few.few d) (omega (arith, few_signals system d (omega arith)))
+    at : (k d : ℕ) → d ≡ 0 + k → k < length budgets → domain_weight (tables_of system) budgets d ≤ most_turns * (most_signals + 1)
+    at k d e l = product_small (get_or budgets d 0) (length (interface_of (tables_of system) d) + 1) most_turns (most_signals + 1) (few.few d) (omega (arith, few_signals system d (omega arith)))
 
-pub channels_small : (system : System) (budgets : List ℕ) → HasFew budgets → sum_by (channel_weight budgets) (tables_of system).channels ≤ 64 * 400002
+pub channels_small : (system : System) (budgets : List ℕ) → HasFew budgets → sum_by (channel_weight budgets) (tables_of system).channels ≤ most_channels * (4 * most_turns + 2)
 channels_small system budgets few =
     let cs = (tables_of system).channels in
-    let all : All (λ c. channel_weight budgets c ≤ 400002) cs = λ k c l. (let x = slice_index_or cs k c in omega (arith, few.few x.sender, few.few x.receiver)) in
-    let a = sum_by-le (channel_weight budgets) 400002 cs all in
-    let b = product_small (length cs) 400002 64 400002 (few_channels system) (omega arith) in
+    let all : All (λ c. channel_weight budgets c ≤ 4 * most_turns + 2) cs = λ k c l. (let x = slice_index_or cs k c in omega (arith, few.few x.sender, few.few x.receiver)) in
+    let a = sum_by-le (channel_weight budgets) (4 * most_turns + 2) cs all in
+    let b = product_small (length cs) (4 * most_turns + 2) most_channels (4 * most_turns + 2) (few_channels system) (omega arith) in
     omega (arith, a, b)
 
 pub ruleset small_weights = (domains_small, channels_small, few_domains)

@@ -3,6 +3,7 @@ use Rattle.std.proofs.Common.{◌≡◌, ℕ, zero, suc, ◌<◌, ◌≤◌, tru
 use Rattle.std.specs.Prelude.{codes}
 use Rattle.std.proofs.lemmas.Bool.Decides.{nat_tests}
 use Rattle.java_values.specs.declared.kind.Kind.TheVariants.{Int}
+use Rattle.java_values.specs.SourceLimits.{most_source_bytes}
 use Rattle.kernel_terms.specs.declared.tables.Tables.{Tables}
 use Rattle.kernel_terms.specs.declared.term.Term.{Term}
 use Rattle.kernel_terms.specs.declared.term.Form as form
@@ -18,26 +19,26 @@ use Rattle.sj_ast.specs.declared.name.Name.{Name}
 use Rattle.sj_ast.specs.declared.expression.Raw as raw
 use Rattle.sj_grammar.specs.definitions.Trees.{tree_of}
 use Rattle.sj_accept.specs.definitions.Sources.{SourceTree, IsParsed}
-use Rattle.sj_accept.specs.definitions.Ports.{SignalPort, ChannelPort, port_interface}
+use Rattle.sj_accept.specs.definitions.Ports.{BuiltSignal, BuiltChannel, port_interface}
 use Rattle.sj_accept.specs.definitions.Lowering.{term_at, block_of, int_expression}
-use Rattle.sj_accept.specs.definitions.Programs.{Program, program_of, domain_statements, tables_for, emits_of, sends_of, receives_of}
+use Rattle.sj_accept.specs.definitions.Programs.{LoweredProgram, program_of, domain_statements, tables_for, emits_of, sends_of, receives_of}
 use Rattle.sj_accept.specs.definitions.Accepted.{KeepsNames, Uses, HasBothEnds, KeepsOwners, IsSourceOf}
 use Rattle.sj_accept.proofs.TermLemmas.{statement-Nothing, statement-Pause, statement-Emit, statement-Receive}
 use Rattle.sj_main.proofs.LoweredTrees.{lowers_none, literal_number, pause_then, emit_then, send_then, receive_then, while_then, no_block, block_then, program_made, send_is, seq_two, seq_three}
 use Rattle.sj_main.proofs.SmallSources.{empty_source, empty_sentence, empty_parsed, blink_source, blink_sentence, blink_parsed, loop_source, loop_sentence, loop_parsed, rendezvous_source, rendezvous_sentence, rendezvous_parsed}
 
 -- a program whose domains have these statements, as the rules take it
-abbrev pub setup_with : Program → List Stmt → Setup
+abbrev pub setup_with : LoweredProgram → List Stmt → Setup
 setup_with p ps = record { tables = tables_for (port_interface p.ports) ps; statements = ps; inputs = no_inputs }
 
 -- the rules that a program keeps, whose domains have these statements
-record KeepsAll (p : Program) (ps : List Stmt) : Type 0 where
+record KeepsAll (p : LoweredProgram) (ps : List Stmt) : Type 0 where
   names : KeepsNames p
   owners : KeepsOwners (port_interface p.ports) ps
   loops : (d : ℕ) → LoopsWait (get_or ps d Nothing)
   weight : (d : ℕ) → weight_of (get_or ps d Nothing) ≤ 100000
 
-source_of : (bytes : List ℕ) (p : Program) (ps : List Stmt) (tree : SourceTree) → length bytes ≤ 1048576 → IsParsed bytes tree → program_of tree ≡ Some p → domain_statements p ≡ ps → KeepsAll p ps → IsSourceOf bytes p
+source_of : (bytes : List ℕ) (p : LoweredProgram) (ps : List Stmt) (tree : SourceTree) → length bytes ≤ most_source_bytes → IsParsed bytes tree → program_of tree ≡ Some p → domain_statements p ≡ ps → KeepsAll p ps → IsSourceOf bytes p
 source_of bytes p ps tree size parsed is statements keeps = record {
   size = size;
   tree = tree;
@@ -82,7 +83,7 @@ name_at at text = record { text = text; at = at }
 
 -- the empty program
 
-abbrev pub empty : Program
+abbrev pub empty : LoweredProgram
 empty = record { ports = []; terms = block_of 18 [] ∷ [] }
 
 pub empty_statements : domain_statements empty ≡ Nothing ∷ []
@@ -101,9 +102,9 @@ empty_is_source = source_of empty_source empty (Nothing ∷ []) (tree_of empty_s
 
 -- a signal in two ticks
 
-abbrev pub blink : Program
+abbrev pub blink : LoweredProgram
 blink = record {
-  ports = SignalPort (codes "A") ∷ [];
+  ports = BuiltSignal (codes "A") ∷ [];
   terms = block_of 34 (term_at 35 (form.Emit 0 None) ∷ term_at 42 form.Pause ∷ term_at 48 (form.Emit 0 None) ∷ []) ∷ [];
 }
 
@@ -139,8 +140,8 @@ blink_is_source = source_of blink_source blink (blinks ∷ []) (tree_of blink_so
 abbrev body : Term
 body = block_of 62 (term_at 63 (form.Emit 0 None) ∷ term_at 70 form.Pause ∷ term_at 76 (form.Emit 1 None) ∷ [])
 
-abbrev pub looping : Program
-looping = record { ports = SignalPort (codes "A") ∷ SignalPort (codes "B") ∷ []; terms = block_of 50 (term_at 51 (form.Loop body) ∷ []) ∷ [] }
+abbrev pub looping : LoweredProgram
+looping = record { ports = BuiltSignal (codes "A") ∷ BuiltSignal (codes "B") ∷ []; terms = block_of 50 (term_at 51 (form.Loop body) ∷ []) ∷ [] }
 
 abbrev pub loop_body : Stmt
 loop_body = Seq (Emit 0 None) (Seq Pause (Emit 1 None))
@@ -181,9 +182,9 @@ loop_is_source = source_of loop_source looping (loops ∷ []) (tree_of loop_sour
 abbrev second : Term
 second = block_of 86 (term_at 87 (form.Receive 0) ∷ term_at 98 (form.Emit 1 None) ∷ [])
 
-abbrev pub rendezvous : Program
+abbrev pub rendezvous : LoweredProgram
 rendezvous = record {
-  ports = SignalPort (codes "D") ∷ SignalPort (codes "B") ∷ ChannelPort (codes "C") ∷ [];
+  ports = BuiltSignal (codes "D") ∷ BuiltSignal (codes "B") ∷ BuiltChannel (codes "C") ∷ [];
   terms =
       block_of 64 (term_at 65 (form.Send 0 (int_expression (pos 5))) ∷ term_at 76 (form.Emit 0 None) ∷ []) ∷
       second ∷ [];

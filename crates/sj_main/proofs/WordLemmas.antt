@@ -5,7 +5,7 @@ use Rattle.std.specs.declared.alloc.Global.{Global}
 use Rattle.std.specs.declared.string.String.{String}
 use Rattle.std.specs.Str.{bytes_eq}
 use Rattle.std.proofs.lemmas.Slice.Eq.{bytes_eq-Decides}
-use Rattle.sj_main.specs.Words.{NoTurns, HasTurns, AreOrderWords, NoOrderWords}
+use Rattle.sj_main.specs.CommandWords.{NoTurns, HasTurns, AreOrderWords, NoOrderWords}
 use Rattle.sj_main.specs.declared.commands.Turns.{Turns}
 use Rattle.sj_main.specs.definitions.Commands.{IsTurns, IsOrder, IsNoCommand, word_list, IsCommand}
 

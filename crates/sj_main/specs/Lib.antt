@@ -1,3 +1,3 @@
 pub mod definitions
-pub mod Words
-pub mod Orders
+pub mod CommandWords
+pub mod OrderSteps

@@ -4,11 +4,12 @@
 mod tests;
 
 ghost use Rattle.std.specs.Prelude.{◌≡◌, ◌≢◌, ◌∷◌, ◌++◌, ◌+◌, ◌<◌, List, ℕ, IfOk, OnErr, MatchBool, MatchOption, codes};
-ghost use Rattle.sj_main.specs.Words.{BeginsTwo, NoTwo, BeginsTurn, NoTurn, NoList, IsLast, IsMore, HasList, NoFewTurns, IsTurnList, NoEach, HasEach, NoRounds, NoTurns, HasTurns, AreOrderWords, NoOrderWords};
+ghost use Rattle.sj_main.specs.CommandWords.{BeginsTwo, NoTwo, BeginsTurn, NoTurn, NoList, IsLast, IsMore, HasList, NoFewTurns, IsTurnList, NoEach, HasEach, NoRounds, NoTurns, HasTurns, AreOrderWords, NoOrderWords};
 ghost use Rattle.sj_main.specs.definitions.Commands.{most_turns, whole_number, IsEach, IsRoundCount, IsTurns, IsOrder, IsNoCommand, word_list, IsCommand};
 
 use crate::numbers::number_in;
 use java_values::NoMemory;
+use kernel_terms::MOST_DOMAINS;
 use sqlite_items::Items;
 use std::alloc::Global;
 
@@ -117,7 +118,7 @@ fn first_listed(word: &[u8]) -> Option<Listed<'_>>
 fn is_list(word: &[u8]) -> bool
     ensures { MatchBool result (HasList word.now) (NoFewTurns word.now) }
 {
-    let mut counts = [0u32; 16];
+    let mut counts = [0u32; MOST_DOMAINS];
     let mut left = word;
     loop {
         let Some(Listed { domain, after }) = first_listed(left) else {

@@ -7,8 +7,8 @@ ghost use Rattle.sj_io.specs.definitions.Files.{CountsStay};
 ghost use Rattle.tick_log.specs.definitions.Holding.{run_state, HoldsRun};
 ghost use Rattle.domain_core.specs.definitions.step.Compiling.{CanCompile};
 ghost use Rattle.gals_core.specs.definitions.OrderPlans.{AreDomainsOf};
-ghost use Rattle.sj_main.specs.Words.{AreFew};
-ghost use Rattle.sj_main.specs.Orders.{IsMadeFrom, IsWhy, RunsTurns, IsWhyNoRun};
+ghost use Rattle.sj_main.specs.CommandWords.{AreFew};
+ghost use Rattle.sj_main.specs.OrderSteps.{IsMadeFrom, IsWhyNotMade, RunsTurns, IsWhyNoRun};
 
 use crate::commands::Turns;
 use crate::turns::{budgets, fit, list_rounds, run_weight};
@@ -16,14 +16,11 @@ use domain_core::{CompileError, Domain, compile};
 use gals_core::{OrderPlan, run_order};
 use java_values::NoMemory;
 use kernel_terms::System;
-use sj_accept::{AcceptError, Refusal, accept};
+use sj_accept::{AcceptError, MOST_SOURCE_BYTES, Refusal, accept};
 use sj_io::{Files, ReadError, read_all};
 use std::alloc::Global;
 use thiserror::Error;
 use tick_log::Run;
-
-/// How many bytes a source may have.
-const MOST_SOURCE_BYTES: usize = 1_048_576;
 
 /// How much a run may weigh.
 const MOST_RUN_WEIGHT: u64 = 4_000_000;
@@ -134,7 +131,7 @@ pub fn order<F: Files>(
     ensures holds { IfOk result (λ made. HoldsRun made.system made.run) }
     ensures fault { IsErrOf result OrderError.Fault → Rose (F.faults files.old file.now) (F.faults files.new file.now) }
     ensures counts_stay { (IsErrOf result OrderError.Fault → ⊥) → CountsStay (F.faults files.old) (F.faults files.new) }
-    ensures why { IfErr result (λ e. IfSome (F.told files.old file.now) (λ bytes. IsWhy bytes turns.now e)) }
+    ensures why { IfErr result (λ e. IfSome (F.told files.old file.now) (λ bytes. IsWhyNotMade bytes turns.now e)) }
 {
     let bytes = match read_all(alloc, files, file, MOST_SOURCE_BYTES) {
         Ok(bytes) => bytes,

@@ -5,11 +5,11 @@ ghost use Rattle.sj_io.specs.definitions.Causes.{Rose};
 ghost use Rattle.sj_io.specs.definitions.Files.{CountsStay};
 ghost use Rattle.sj_io.specs.definitions.Sinks.{TakesMore, TakesPrefix};
 ghost use Rattle.tick_log.specs.Puts.{Puts};
-ghost use Rattle.sj_main.specs.Words.{AreFew};
-ghost use Rattle.sj_main.specs.definitions.Answers.{PrintsRun, PrintsRefusal, PrintsWeight, FailsToRead, BeginsAnswer};
-ghost use Rattle.sj_main.specs.Orders.{BeginsOrder, TellsWeight};
+ghost use Rattle.sj_main.specs.CommandWords.{AreFew};
+ghost use Rattle.sj_main.specs.definitions.Answers.{PrintsRun, PrintsRefusal, PrintsUsage, PrintsMisfit, PrintsWeight, FailsToRead, BeginsAnswer};
+ghost use Rattle.sj_main.specs.OrderSteps.{BeginsOrder, TellsWeight};
 ghost use Rattle.sj_main.specs.definitions.Commands.{IsNoCommand, word_list, IsCommand};
-ghost use Rattle.sj_main.specs.definitions.Verdicts.{usage_line, misfit_line, numbered_line, refusal_line, IsMisfit, OrdersSuch};
+ghost use Rattle.sj_main.specs.definitions.Verdicts.{misfit_line, numbered_line, refusal_line, IsMisfit, OrdersSuch};
 
 use crate::commands::{Turns, read_order};
 use crate::order::{OrderError, order};
@@ -151,8 +151,8 @@ pub fn serve_plain<F: Files, K: Sink>(
     ensures done { result ≡ 0 → OrdersSuch (word_list words.now) (F.told files.old) (λ bytes turns. PrintsRun bytes turns (K.taken out.old) (K.taken out.new)) }
     ensures refused { result ≡ 1 → OrdersSuch (word_list words.now) (F.told files.old) (λ bytes turns. PrintsRefusal bytes (K.taken out.old) (K.taken out.new)) }
     ensures no_run { result ≡ 2 →
-        (IsNoCommand (word_list words.now) × TakesMore (K.taken out.old) (K.taken out.new) usage_line)
-        ⊎ (OrdersSuch (word_list words.now) (F.told files.old) IsMisfit × TakesMore (K.taken out.old) (K.taken out.new) misfit_line) }
+        PrintsUsage (word_list words.now) (K.taken out.old) (K.taken out.new)
+        ⊎ PrintsMisfit (word_list words.now) (F.told files.old) (K.taken out.old) (K.taken out.new) }
     ensures usage { IsNoCommand (word_list words.now) → (result ≡ 2) ⊎ (result ≡ 4) }
     ensures read_fault { result ≡ 3 → FailsToRead (word_list words.now) (F.faults files.old) (F.faults files.new) × TakesMore (K.taken out.old) (K.taken out.new) (codes "read fault\n") }
     ensures write_fault { result ≡ 4 → Rose (K.faults out.old) (K.faults out.new) × BeginsAnswer (word_list words.now) (F.told files.old) (F.faults files.old) (F.faults files.new) (K.taken out.old) (K.taken out.new) }

@@ -6,7 +6,7 @@ ghost use Rattle.kernel_terms.specs.Systems.{tables_of, domains_of};
 ghost use Rattle.kernel_terms.specs.Limits.{most_domains};
 ghost use Rattle.kernel_terms.specs.TableEntries.{is_interface_of, numbers_where};
 ghost use Rattle.domain_core.specs.definitions.runs.Scheduled.{turns_of};
-ghost use Rattle.sj_main.specs.Words.{AreFew};
+ghost use Rattle.sj_main.specs.CommandWords.{AreFew};
 ghost use Rattle.sj_main.specs.definitions.Commands.{most_turns, rounds_of, turns_for, FitDomains, budgets_for};
 ghost use Rattle.sj_main.specs.definitions.RunWeight.{domain_weight, end_weight, channel_weight, run_weight};
 

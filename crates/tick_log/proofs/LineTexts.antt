@@ -19,7 +19,7 @@ use Rattle.tick_log.specs.declared.run.Run.{Run}
 use Rattle.tick_log.specs.definitions.Containers.{LogState, HistoryState, logged, joined, no_log}
 use Rattle.tick_log.specs.definitions.Holding.{HoldsRun}
 use Rattle.tick_log.specs.definitions.RunText.{signal_text, signal_texts, interface_signals, tick_line, tick_lines, domain_line, domain_lines, join_line, join_lines, channel_line, channel_lines, text_of_lines}
-use Rattle.tick_log.proofs.SignalCountLemmas.{few_signals}
+use Rattle.kernel_terms.proofs.SystemLimits.{few_signals}
 use Rattle.tick_log.proofs.PrinterTexts.{Completes, completes_first, completes_on, completes_last}
 
 no_statuses : (infos : List SignalInfo) → signal_texts infos [] ≡ []

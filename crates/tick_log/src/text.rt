@@ -20,11 +20,8 @@ use crate::log::Log;
 use crate::printer::Printer;
 use crate::run::Run;
 use java_values::Kind;
-use kernel_terms::{ChannelInfo, SignalInfo, Sort, System, Tables};
+use kernel_terms::{ChannelInfo, MOST_SIGNALS, SignalInfo, Sort, System, Tables};
 use sj_io::{Sink, WriteError};
-
-// The most signals of a domain.
-const MOST_SIGNALS: usize = 1024;
 
 /// Prints the text of a run. For each domain a line with its number, its ticks and whether it ended,
 /// and then a line for each tick with its number, its stamp and the interface signals that were

@@ -1,6 +1,7 @@
 -- The sources that are accepted, as one predicate on their bytes.
 use Rattle.std.specs.Prelude.{◌≡◌, ◌≢◌, ℕ, ◌<◌, ◌≤◌, true, List, length, get_or, Some}
 use Rattle.java_values.specs.Names.{are_distinct}
+use Rattle.java_values.specs.SourceLimits.{most_source_bytes}
 use Rattle.kernel_terms.specs.Limits.{most_domains, most_channels, most_signals}
 use Rattle.kernel_terms.specs.WellFormed.{stands_in, signals_of}
 use Rattle.kernel_terms.specs.Statements.{Stmt, Nothing}
@@ -8,13 +9,10 @@ use Rattle.kernel_terms.specs.MayEnd.{LoopsWait}
 use Rattle.tick_tree.specs.definitions.Weight.{weight_of, most_weight}
 use Rattle.sj_accept.specs.definitions.Sources.{SourceTree, IsParsed}
 use Rattle.sj_accept.specs.definitions.Ports.{Interface, port_names, port_interface}
-use Rattle.sj_accept.specs.definitions.Programs.{Program, program_of, domain_statements, emits_of, sends_of, receives_of, tables_for}
-
-abbrev pub most_source_bytes : ℕ
-most_source_bytes = 1048576
+use Rattle.sj_accept.specs.definitions.Programs.{LoweredProgram, program_of, domain_statements, emits_of, sends_of, receives_of, tables_for}
 
 -- The rules on names, and on the numbers of domains and channels.
-pub record KeepsNames (p : Program) : Type 0 where
+pub record KeepsNames (p : LoweredProgram) : Type 0 where
   pub distinct : are_distinct (port_names p.ports) ≡ true
   pub channels : length (port_interface p.ports).channels ≤ most_channels
   pub domains : length p.terms ≤ most_domains
@@ -43,19 +41,19 @@ pub record KeepsOwners (i : Interface) (ps : List Stmt) : Type 0 where
   pub joined : (c : ℕ) → c < length i.channels → HasBothEnds ps c
 
 -- The rules on names and on owners.
-pub record KeepsNamesAndOwners (p : Program) : Type 0 where
+pub record KeepsNamesAndOwners (p : LoweredProgram) : Type 0 where
   pub names : KeepsNames p
   pub owners : KeepsOwners (port_interface p.ports) (domain_statements p)
 
 -- The static rules. No signal is read, so every domain is causal; there are no variables and no `||`, so no branch
 -- shares one, and no end stands in two.
-pub record KeepsRules (p : Program) : Type 0 where
+pub record KeepsRules (p : LoweredProgram) : Type 0 where
   pub ports : KeepsNamesAndOwners p
   pub loops : (d : ℕ) → LoopsWait (get_or (domain_statements p) d Nothing)
   pub weight : (d : ℕ) → weight_of (get_or (domain_statements p) d Nothing) ≤ most_weight
 
 -- the bytes are an accepted source, and this is its program
-pub record IsSourceOf (bytes : List ℕ) (p : Program) : Type 0 where
+pub record IsSourceOf (bytes : List ℕ) (p : LoweredProgram) : Type 0 where
   pub size : length bytes ≤ most_source_bytes
   pub tree : SourceTree
   pub parsed : IsParsed bytes tree
@@ -63,5 +61,5 @@ pub record IsSourceOf (bytes : List ℕ) (p : Program) : Type 0 where
   pub rules : KeepsRules p
 
 pub record IsAccepted (bytes : List ℕ) : Type 0 where
-  pub program : Program
+  pub program : LoweredProgram
   pub source : IsSourceOf bytes program

@@ -11,29 +11,29 @@ use Rattle.kernel_terms.specs.Statements.{Stmt, Emit, If, Present, Seq, Loop, Pa
 use Rattle.kernel_terms.specs.WellFormed.{stands_in}
 use Rattle.sj_grammar.specs.definitions.Trees.{SourceBlock}
 use Rattle.sj_accept.specs.Optional.{all_some}
-use Rattle.sj_accept.specs.definitions.Ports.{Port, Interface, port_interface, ports_of}
+use Rattle.sj_accept.specs.definitions.Ports.{BuiltPort, Interface, port_interface, built_ports}
 use Rattle.sj_accept.specs.definitions.Lowering.{block_term}
 use Rattle.sj_accept.specs.definitions.Sources.{SourceTree}
 
 -- its ports, and the term of each domain, by rising number
-pub record Program : Type 0 where
-  pub ports : List Port
+pub record LoweredProgram : Type 0 where
+  pub ports : List BuiltPort
   pub terms : List Term
 
-abbrev pub with_terms : List Port → Option (List Term) → Option Program
+abbrev pub with_terms : List BuiltPort → Option (List Term) → Option LoweredProgram
 with_terms ports None = None
 with_terms ports (Some terms) = Some (record { ports = ports; terms = terms })
 
-abbrev pub with_ports : List SourceBlock → Option (List Port) → Option Program
+abbrev pub with_ports : List SourceBlock → Option (List BuiltPort) → Option LoweredProgram
 with_ports blocks None = None
 with_ports blocks (Some ports) = with_terms ports (all_some (map (block_term (port_interface ports)) blocks))
 
 -- the program of a tree, where all its forms are built and all its names declared
-abbrev pub program_of : SourceTree → Option Program
-program_of tree = with_ports tree.domains (ports_of tree.ports)
+abbrev pub program_of : SourceTree → Option LoweredProgram
+program_of tree = with_ports tree.domains (built_ports tree.ports)
 
 -- the statement of each domain, by rising number
-abbrev pub domain_statements : Program → List Stmt
+abbrev pub domain_statements : LoweredProgram → List Stmt
 domain_statements p = map statement p.terms
 
 -- what stands at the leaves of a statement, from the left
@@ -106,5 +106,5 @@ tables_for i ps = record {
   variables = [];
 }
 
-abbrev pub tables_of_program : Program → Tables
+abbrev pub tables_of_program : LoweredProgram → Tables
 tables_of_program p = tables_for (port_interface p.ports) (domain_statements p)

@@ -1,6 +1,7 @@
 -- Why a source isn't accepted: the first place where its bytes are no token, then its first token that can't stand or is
 -- too deep, then any other rule.
 use Rattle.std.specs.Prelude.{ℕ, ◌≤◌, List, length}
+use Rattle.java_values.specs.SourceLimits.{most_source_bytes}
 use Rattle.sj_lexer.specs.declared.head.Fault.TheVariants as fault
 use Rattle.sj_lexer.specs.declared.token.Token.{Token}
 use Rattle.sj_lexer.specs.definitions.Readings as readings
@@ -10,8 +11,8 @@ use Rattle.sj_accept.specs.declared.refusal.Refusal.TheVariants as refusal
 use Rattle.sj_accept.specs.declared.refusal.AcceptError.{AcceptError}
 use Rattle.sj_accept.specs.declared.refusal.AcceptError.TheVariants as error
 use Rattle.sj_accept.specs.definitions.Sources.{SourceTree, IsParsed}
-use Rattle.sj_accept.specs.definitions.Programs.{Program}
-use Rattle.sj_accept.specs.definitions.Accepted.{most_source_bytes, IsSourceOf}
+use Rattle.sj_accept.specs.definitions.Programs.{LoweredProgram}
+use Rattle.sj_accept.specs.definitions.Accepted.{IsSourceOf}
 
 -- the source's tokens begin no program, up to the one at this place and with it
 pub record IsSyntaxAt (source : List ℕ) (place : ℕ) : Type 0 where
@@ -30,7 +31,7 @@ pub record IsUnaccepted (source : List ℕ) : Type 0 where
   pub size : length source ≤ most_source_bytes
   pub tree : SourceTree
   pub parsed : IsParsed source tree
-  pub none : (p : Program) → IsSourceOf source p → ⊥
+  pub none : (p : LoweredProgram) → IsSourceOf source p → ⊥
 
 abbrev pub IsRefusedFor : List ℕ → Refusal → Type 0
 IsRefusedFor source (refusal.BadByte at) = readings.IsRefused source fault.BadByte at

@@ -4,8 +4,8 @@ use Rattle.sj_io.specs.definitions.Causes.{Rose}
 use Rattle.sj_io.specs.definitions.Files.{CountsStay}
 use Rattle.sj_io.specs.definitions.Sinks.{TakesMore, TakesPrefix}
 use Rattle.sj_main.specs.declared.commands.Turns.{Turns}
-use Rattle.sj_main.specs.definitions.Commands.{IsOrder}
-use Rattle.sj_main.specs.definitions.Verdicts.{IsTextOfRun, IsRefusal, IsOverweight, OrdersSuch, Outcome, Done, Refused, NoCommand, Misfit, ReadFault, NoMemory, Overweight, IsAnswer, overweight_line}
+use Rattle.sj_main.specs.definitions.Commands.{IsOrder, IsNoCommand}
+use Rattle.sj_main.specs.definitions.Verdicts.{usage_line, misfit_line, IsTextOfRun, IsRefusal, IsMisfit, IsOverweight, OrdersSuch, CommandOutcome, Done, Refused, NoCommand, Misfit, ReadFault, NoMemory, Overweight, IsAnswer, overweight_line}
 
 -- the sink took the text of the run
 pub record PrintsRun (bytes : List ℕ) (turns : Turns) (old new : Option (List ℕ)) : Type 0 where
@@ -18,6 +18,16 @@ pub record PrintsRefusal (bytes : List ℕ) (old new : Option (List ℕ)) : Type
   pub text : List ℕ
   pub is : IsRefusal bytes text
   pub takes : TakesMore old new text
+
+-- the words are no command, and the sink took the usage line
+pub record PrintsUsage (words : List (List ℕ)) (old new : Option (List ℕ)) : Type 0 where
+  pub none : IsNoCommand words
+  pub takes : TakesMore old new usage_line
+
+-- the words order turns of which one is of no domain, and the sink took the line that says so
+pub record PrintsMisfit (words : List (List ℕ)) (told : List ℕ → Option (List ℕ)) (old new : Option (List ℕ)) : Type 0 where
+  pub orders : OrdersSuch words told IsMisfit
+  pub takes : TakesMore old new misfit_line
 
 -- the words order such a run, and the sink took its line
 pub record PrintsWeight (words : List (List ℕ)) (told : List ℕ → Option (List ℕ)) (old new : Option (List ℕ)) : Type 0 where
@@ -34,7 +44,7 @@ pub record FailsToRead (words : List (List ℕ)) (faults faults' : List ℕ → 
 
 -- what the counts of the files show at an outcome: a read fault has its cause, and at any other outcome
 -- no count has moved
-abbrev pub CountsShow : (cause : Type 0) → (faults faults' : List ℕ → ℕ) → Outcome → Type 0
+abbrev pub CountsShow : (cause : Type 0) → (faults faults' : List ℕ → ℕ) → CommandOutcome → Type 0
 CountsShow cause faults faults' Done = CountsStay faults faults'
 CountsShow cause faults faults' Refused = CountsStay faults faults'
 CountsShow cause faults faults' NoCommand = CountsStay faults faults'
@@ -45,7 +55,7 @@ CountsShow cause faults faults' (Overweight weight) = CountsStay faults faults'
 
 -- the sink took a prefix of the text that some answer to the words has, and the files' counts fit that answer
 pub record BeginsAnswer (words : List (List ℕ)) (told : List ℕ → Option (List ℕ)) (faults faults' : List ℕ → ℕ) (old new : Option (List ℕ)) : Type 0 where
-  pub outcome : Outcome
+  pub outcome : CommandOutcome
   pub text : List ℕ
   pub is : IsAnswer words told outcome text
   pub counts : CountsShow (FailsToRead words faults faults') faults faults' outcome

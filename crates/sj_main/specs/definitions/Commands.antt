@@ -3,6 +3,7 @@ use Rattle.std.specs.Prelude.{◌≡◌, ℕ, zero, suc, ◌+◌, ◌-◌, ◌*�
 use Rattle.std.specs.List.{range_with_len}
 use Rattle.std.specs.declared.alloc.Global.{Global}
 use Rattle.std.specs.declared.string.String.{String}
+use Rattle.kernel_terms.specs.Limits.{most_domains}
 use Rattle.domain_core.specs.definitions.runs.Scheduled.{turns_of}
 use Rattle.java_values.specs.Names.{is_digit}
 use Rattle.sj_main.specs.declared.commands.Turns.{Turns}
@@ -24,7 +25,7 @@ whole_number limit [] = None
 whole_number limit (b ∷ []) = number_from limit 0 (b ∷ [])
 whole_number limit (b ∷ c ∷ rest) = cond (b == 48) None (number_from limit 0 (b ∷ c ∷ rest))
 
--- a domain's number below 16 in decimal
+-- a domain's number in decimal
 abbrev pub turn_text : ℕ → List ℕ
 turn_text t = cond (nat_lt t 10) ((48 + t) ∷ []) (49 ∷ (38 + t) ∷ [])
 
@@ -35,7 +36,7 @@ turns_text t (u ∷ ts) = turn_text t ++ 44 ∷ turns_text u ts
 
 abbrev pub AreDomains : List ℕ → Type 0
 AreDomains [] = Unit {0}
-AreDomains (t ∷ ts) = (t < 16) × AreDomains ts
+AreDomains (t ∷ ts) = (t < most_domains) × AreDomains ts
 
 -- `-` for no turn, and else the turns with commas
 abbrev pub AreTurns : List ℕ → List ℕ → Type 0

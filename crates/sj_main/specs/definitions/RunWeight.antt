@@ -5,7 +5,7 @@ use Rattle.kernel_terms.specs.declared.tables.ChannelInfo.{ChannelInfo}
 use Rattle.kernel_terms.specs.declared.tables.Tables.{Tables}
 use Rattle.kernel_terms.specs.TableEntries.{interface_of}
 use Rattle.sj_main.specs.declared.commands.Turns.{Turns}
-use Rattle.sj_accept.specs.definitions.Programs.{Program, domain_statements, tables_of_program}
+use Rattle.sj_accept.specs.definitions.Programs.{LoweredProgram, domain_statements, tables_of_program}
 use Rattle.sj_main.specs.definitions.Commands.{turns_for, budgets_for}
 
 abbrev pub most_run_weight : ℕ
@@ -25,12 +25,12 @@ channel_weight budgets c = end_weight budgets c.sender + end_weight budgets c.re
 abbrev pub run_weight : Tables → List ℕ → ℕ
 run_weight t budgets = sum_by (domain_weight t budgets) (range_with_len 0 (length budgets)) + sum_by (channel_weight budgets) t.channels
 
-abbrev pub domain_count_of : Program → ℕ
+abbrev pub domain_count_of : LoweredProgram → ℕ
 domain_count_of p = length (domain_statements p)
 
 -- the turns of the program, and the weight of a run of them
-abbrev pub turns_of_program : Program → Turns → List ℕ
+abbrev pub turns_of_program : LoweredProgram → Turns → List ℕ
 turns_of_program p turns = turns_for turns (domain_count_of p)
 
-abbrev pub run_weight_of : Program → Turns → ℕ
+abbrev pub run_weight_of : LoweredProgram → Turns → ℕ
 run_weight_of p turns = run_weight (tables_of_program p) (budgets_for turns (domain_count_of p))

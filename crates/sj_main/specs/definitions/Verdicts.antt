@@ -1,6 +1,7 @@
 -- What is answered, in the order in which it is looked for: the words, the reading of the source, its
 -- size, its tokens, grammar and rules, whether the turns fit its domains, the run's weight, and then the run.
 use Rattle.std.specs.Prelude.{◌≡◌, ℕ, ◌<◌, ◌≤◌, List, ◌++◌, length, Option, IfSome, codes, decimal}
+use Rattle.java_values.specs.SourceLimits.{most_source_bytes}
 use Rattle.tick_log.specs.definitions.Runs.{RunState}
 use Rattle.tick_log.specs.definitions.RunText.{run_text}
 use Rattle.kernel_rules.specs.definitions.LegalTick.{no_inputs}
@@ -9,8 +10,8 @@ use Rattle.domain_core.specs.definitions.runs.Scheduled.{IsScheduledRun, IsWhole
 use Rattle.sj_main.specs.declared.commands.Turns.{Turns}
 use Rattle.sj_accept.specs.declared.refusal.Refusal.{Refusal}
 use Rattle.sj_accept.specs.declared.refusal.Refusal.TheVariants as refusal
-use Rattle.sj_accept.specs.definitions.Programs.{Program, tables_of_program}
-use Rattle.sj_accept.specs.definitions.Accepted.{most_source_bytes, IsSourceOf}
+use Rattle.sj_accept.specs.definitions.Programs.{LoweredProgram, tables_of_program}
+use Rattle.sj_accept.specs.definitions.Accepted.{IsSourceOf}
 use Rattle.sj_accept.specs.definitions.Refusals.{IsRefusedFor}
 use Rattle.sj_main.specs.definitions.ProgramSetups.{program_setup}
 use Rattle.sj_main.specs.definitions.Commands.{FitDomains, IsOrder, IsNoCommand}
@@ -42,14 +43,14 @@ refusal_line (refusal.TooDeep at) = numbered_line (codes "refused TooDeep at ") 
 refusal_line refusal.Later = codes "refused Later\n"
 
 -- the turns fit the program's domains, and the run isn't too heavy
-pub record CanRun (p : Program) (turns : Turns) : Type 0 where
+pub record CanRun (p : LoweredProgram) (turns : Turns) : Type 0 where
   pub fit : FitDomains turns (domain_count_of p)
   pub weight : run_weight_of p turns ≤ most_run_weight
 
 -- The text is that of the run of the turns of the bytes' program: the scheduled run, which is legal, spends
 -- the budgets and is at rest.
 pub record IsTextOfRun (bytes : List ℕ) (turns : Turns) (text : List ℕ) : Type 0 where
-  pub program : Program
+  pub program : LoweredProgram
   pub source : IsSourceOf bytes program
   pub can : CanRun program turns
   pub run : RunState
@@ -65,13 +66,13 @@ pub data IsRefusal (bytes text : List ℕ) : Type 0 where
 
 -- a turn is one of no domain of the bytes' program
 pub record IsMisfit (bytes : List ℕ) (turns : Turns) : Type 0 where
-  pub program : Program
+  pub program : LoweredProgram
   pub source : IsSourceOf bytes program
   pub stray : FitDomains turns (domain_count_of program) → ⊥
 
 -- the turns fit, and their run has this weight, which is above the limit
 pub record IsOverweight (bytes : List ℕ) (turns : Turns) (weight : ℕ) : Type 0 where
-  pub program : Program
+  pub program : LoweredProgram
   pub source : IsSourceOf bytes program
   pub fit : FitDomains turns (domain_count_of program)
   pub is : weight ≡ run_weight_of program turns
@@ -85,17 +86,17 @@ pub record OrdersSuch (words : List (List ℕ)) (told : List ℕ → Option (Lis
   pub holds : IfSome (told file) (λ bytes. P bytes turns)
 
 -- the answers but for a fault of the sink
-pub data Outcome : Type 0 where
-  Done : Outcome
-  Refused : Outcome
-  NoCommand : Outcome
-  Misfit : Outcome
-  ReadFault : Outcome
-  NoMemory : Outcome
-  Overweight : (weight : ℕ) → Outcome
+pub data CommandOutcome : Type 0 where
+  Done : CommandOutcome
+  Refused : CommandOutcome
+  NoCommand : CommandOutcome
+  Misfit : CommandOutcome
+  ReadFault : CommandOutcome
+  NoMemory : CommandOutcome
+  Overweight : (weight : ℕ) → CommandOutcome
 
 -- the text of each answer to the order of a file, and when it may come, where its bytes are told
-abbrev pub IsOrderAnswer : Option (List ℕ) → Turns → Outcome → List ℕ → Type 0
+abbrev pub IsOrderAnswer : Option (List ℕ) → Turns → CommandOutcome → List ℕ → Type 0
 IsOrderAnswer told turns Done text = IfSome told (λ bytes. IsTextOfRun bytes turns text)
 IsOrderAnswer told turns Refused text = IfSome told (λ bytes. IsRefusal bytes text)
 IsOrderAnswer told turns NoCommand text = ⊥
@@ -105,6 +106,6 @@ IsOrderAnswer told turns NoMemory text = text ≡ codes "no memory\n"
 IsOrderAnswer told turns (Overweight weight) text = IfSome told (λ bytes. IsOverweight bytes turns weight) × (text ≡ overweight_line weight)
 
 -- the text of each answer to the words
-pub data IsAnswer (words : List (List ℕ)) (told : List ℕ → Option (List ℕ)) (outcome : Outcome) (text : List ℕ) : Type 0 where
+pub data IsAnswer (words : List (List ℕ)) (told : List ℕ → Option (List ℕ)) (outcome : CommandOutcome) (text : List ℕ) : Type 0 where
   ToNoCommand : IsNoCommand words → outcome ≡ NoCommand → text ≡ usage_line → IsAnswer words told outcome text
   ToOrder : (file : List ℕ) (turns : Turns) → IsOrder words file turns → IsOrderAnswer (told file) turns outcome text → IsAnswer words told outcome text

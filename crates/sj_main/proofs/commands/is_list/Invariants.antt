@@ -1,5 +1,5 @@
 use Rattle.std.proofs.Common.{length}
-use Rattle.sj_main.specs.Words.{CountedTo}
+use Rattle.sj_main.specs.CommandWords.{CountedTo}
 use Rattle.sj_main.proofs.commands.is_list.Given as goal
 
 abbrev pub invariant-loop-domain : goal.invariant-loop-domain

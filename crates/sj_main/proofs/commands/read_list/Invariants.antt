@@ -1,5 +1,5 @@
 use Rattle.std.proofs.Common.{length}
-use Rattle.sj_main.specs.Words.{TurnsReach}
+use Rattle.sj_main.specs.CommandWords.{TurnsReach}
 use Rattle.sj_main.proofs.commands.read_list.Given as goal
 
 abbrev pub invariant-loop-domain : goal.invariant-loop-domain

@@ -1,5 +1,6 @@
 -- What the steps of the reading of words answer.
 use Rattle.std.specs.Prelude.{◌≡◌, ◌⊎◌, ℕ, ◌+◌, ◌<◌, ◌≤◌, List, [], ◌∷◌, ◌++◌, length, get_or, codes}
+use Rattle.kernel_terms.specs.Limits.{most_domains}
 use Rattle.domain_core.specs.definitions.runs.Scheduled.{turns_of}
 use Rattle.sj_main.specs.declared.commands.Turns.{Turns}
 use Rattle.sj_main.specs.declared.commands.Turns.TheVariants.{Rounds, Each}
@@ -9,7 +10,7 @@ use Rattle.sj_main.specs.definitions.Commands.{most_turns, turn_text, turns_text
 pub record BeginsTwo (word : List ℕ) (domain : ℕ) (rest : List ℕ) : Type 0 where
   pub is : word ≡ 49 ∷ (38 + domain) ∷ rest
   pub high : 10 ≤ domain
-  pub below : domain < 16
+  pub below : domain < most_domains
 
 pub record NoTwo (word : List ℕ) : Type 0 where
   pub none : (b : ℕ) (rest : List ℕ) → word ≡ 49 ∷ b ∷ rest → 48 ≤ b → b ≤ 53 → ⊥
@@ -21,27 +22,27 @@ EndsTurn after = (after ≡ []) ⊎ ((rest : List ℕ) × (after ≡ 44 ∷ rest
 -- the bytes begin with this turn, and with no other one that ends
 pub record BeginsTurn (word : List ℕ) (domain : ℕ) (rest : List ℕ) : Type 0 where
   pub is : word ≡ turn_text domain ++ rest
-  pub below : domain < 16
-  pub only : (t : ℕ) (after : List ℕ) → t < 16 → EndsTurn after → word ≡ turn_text t ++ after → (t ≡ domain) × (after ≡ rest)
+  pub below : domain < most_domains
+  pub only : (t : ℕ) (after : List ℕ) → t < most_domains → EndsTurn after → word ≡ turn_text t ++ after → (t ≡ domain) × (after ≡ rest)
 
 pub record NoTurn (word : List ℕ) : Type 0 where
-  pub none : (t : ℕ) (after : List ℕ) → t < 16 → word ≡ turn_text t ++ after → ⊥
+  pub none : (t : ℕ) (after : List ℕ) → t < most_domains → word ≡ turn_text t ++ after → ⊥
 
 -- the bytes are no turns with commas
 pub record NoList (word : List ℕ) : Type 0 where
-  pub none : (t : ℕ) (ts : List ℕ) → t < 16 → word ≡ turns_text t ts → ⊥
+  pub none : (t : ℕ) (ts : List ℕ) → t < most_domains → word ≡ turns_text t ts → ⊥
 
 -- they are this turn alone
 pub record IsLast (word : List ℕ) (domain : ℕ) : Type 0 where
   pub is : word ≡ turn_text domain
-  pub below : domain < 16
-  pub only : (t : ℕ) (ts : List ℕ) → t < 16 → word ≡ turns_text t ts → (t ≡ domain) × (ts ≡ [])
+  pub below : domain < most_domains
+  pub only : (t : ℕ) (ts : List ℕ) → t < most_domains → word ≡ turns_text t ts → (t ≡ domain) × (ts ≡ [])
 
 -- this turn comes first, and after its comma come others
 pub record IsMore (word : List ℕ) (domain : ℕ) (rest : List ℕ) : Type 0 where
   pub is : word ≡ turn_text domain ++ 44 ∷ rest
-  pub below : domain < 16
-  pub only : (t : ℕ) (ts : List ℕ) → t < 16 → word ≡ turns_text t ts → (t ≡ domain) × (u : ℕ) × (us : List ℕ) × (ts ≡ u ∷ us) × (rest ≡ turns_text u us)
+  pub below : domain < most_domains
+  pub only : (t : ℕ) (ts : List ℕ) → t < most_domains → word ≡ turns_text t ts → (t ≡ domain) × (u : ℕ) × (us : List ℕ) × (ts ≡ u ∷ us) × (rest ≡ turns_text u us)
 
 -- the turns of a word with commas
 pub record IsTurnList (word turns : List ℕ) : Type 0 where
@@ -63,19 +64,19 @@ pub record HasList (word : List ℕ) : Type 0 where
 pub record NoFewTurns (word : List ℕ) : Type 0 where
   pub none : (t : ℕ) (ts : List ℕ) → AreDomains (t ∷ ts) → ((d : ℕ) → turns_of d (t ∷ ts) ≤ most_turns) → word ≡ turns_text t ts → ⊥
 
--- the turns before the front are these
-pub record TurnsReach (word turns front : List ℕ) : Type 0 where
-  pub there : (t : ℕ) (ts : List ℕ) → front ≡ turns_text t ts → (u : ℕ) × (us : List ℕ) × (turns ++ t ∷ ts ≡ u ∷ us) × (word ≡ turns_text u us)
-  pub back : (u : ℕ) (us : List ℕ) → AreDomains (u ∷ us) → word ≡ turns_text u us → (t : ℕ) × (ts : List ℕ) × (u ∷ us ≡ turns ++ t ∷ ts) × (front ≡ turns_text t ts)
+-- the turns before the rest are these
+pub record TurnsReach (word turns rest : List ℕ) : Type 0 where
+  pub there : (t : ℕ) (ts : List ℕ) → rest ≡ turns_text t ts → (u : ℕ) × (us : List ℕ) × (turns ++ t ∷ ts ≡ u ∷ us) × (word ≡ turns_text u us)
+  pub back : (u : ℕ) (us : List ℕ) → AreDomains (u ∷ us) → word ≡ turns_text u us → (t : ℕ) × (ts : List ℕ) × (u ∷ us ≡ turns ++ t ∷ ts) × (rest ≡ turns_text t ts)
   pub domains : AreDomains turns
 
--- the turns before the front, counted by domain: none has too many
-pub record CountedTo (word front counts : List ℕ) : Type 0 where
+-- the turns before the rest, counted by domain: none has too many
+pub record CountedTo (word rest counts : List ℕ) : Type 0 where
   pub turns : List ℕ
-  pub reach : TurnsReach word turns front
-  pub size : length counts ≡ 16
-  pub each : (d : ℕ) → d < 16 → get_or counts d 0 ≡ turns_of d turns
-  pub few : (d : ℕ) → d < 16 → get_or counts d 0 ≤ most_turns
+  pub reach : TurnsReach word turns rest
+  pub size : length counts ≡ most_domains
+  pub each : (d : ℕ) → d < most_domains → get_or counts d 0 ≡ turns_of d turns
+  pub few : (d : ℕ) → d < most_domains → get_or counts d 0 ≤ most_turns
 
 pub record NoEach (word : List ℕ) : Type 0 where
   pub none : (turns : List ℕ) → IsEach word turns → ⊥

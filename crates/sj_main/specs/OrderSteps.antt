@@ -1,5 +1,6 @@
 -- What the steps of `order` make and answer.
 use Rattle.std.specs.Prelude.{◌≡◌, ℕ, ◌<◌, ◌≤◌, List, length, Option, IfSome}
+use Rattle.java_values.specs.SourceLimits.{most_source_bytes}
 use Rattle.kernel_terms.specs.declared.system.System.{System}
 use Rattle.kernel_terms.specs.Systems.{tables_of, domains_of}
 use Rattle.sj_io.specs.definitions.Causes.{Rose}
@@ -14,18 +15,18 @@ use Rattle.sj_main.specs.declared.commands.Turns.{Turns}
 use Rattle.sj_main.specs.declared.order.Made.{Made}
 use Rattle.sj_main.specs.declared.order.OrderError.{OrderError}
 use Rattle.sj_main.specs.declared.order.OrderError.TheVariants.{Fault, Size, Refused, DomainsDoNotFit, OverWeight, NoMemory}
-use Rattle.sj_accept.specs.definitions.Programs.{Program, tables_of_program}
-use Rattle.sj_accept.specs.definitions.Accepted.{most_source_bytes, IsSourceOf}
+use Rattle.sj_accept.specs.definitions.Programs.{LoweredProgram, tables_of_program}
+use Rattle.sj_accept.specs.definitions.Accepted.{IsSourceOf}
 use Rattle.sj_accept.specs.definitions.Refusals.{IsRefusedFor}
 use Rattle.sj_main.specs.definitions.ProgramSetups.{program_setup}
 use Rattle.sj_main.specs.definitions.Commands.{turns_for, FitDomains, budgets_for}
 use Rattle.sj_main.specs.definitions.RunWeight.{most_run_weight, run_weight, turns_of_program}
 use Rattle.sj_main.specs.definitions.Answers.{CountsShow}
-use Rattle.sj_main.specs.definitions.Verdicts.{CanRun, IsMisfit, IsOverweight, Outcome, IsOrderAnswer, overweight_line}
+use Rattle.sj_main.specs.definitions.Verdicts.{CanRun, IsMisfit, IsOverweight, CommandOutcome, IsOrderAnswer, overweight_line}
 
 -- the system and the run are those of the bytes and the turns
 pub record IsMadeFrom (bytes : List ℕ) (turns : Turns) (made : Made) : Type 0 where
-  pub program : Program
+  pub program : LoweredProgram
   pub source : IsSourceOf bytes program
   pub can : CanRun program turns
   pub tables : tables_of made.system ≡ tables_of_program program
@@ -55,13 +56,13 @@ IsWhyNoRun system turns (OverWeight weight) = WeighsTooMuch system turns weight
 IsWhyNoRun system turns NoMemory = Unit {0}
 
 -- why there is no run of the turns of these bytes' program, as far as the bytes tell
-abbrev pub IsWhy : List ℕ → Turns → OrderError → Type 0
-IsWhy bytes turns Fault = Unit {0}
-IsWhy bytes turns Size = most_source_bytes < length bytes
-IsWhy bytes turns (Refused reason) = (length bytes ≤ most_source_bytes) × IsRefusedFor bytes reason
-IsWhy bytes turns DomainsDoNotFit = IsMisfit bytes turns
-IsWhy bytes turns (OverWeight weight) = IsOverweight bytes turns weight
-IsWhy bytes turns NoMemory = Unit {0}
+abbrev pub IsWhyNotMade : List ℕ → Turns → OrderError → Type 0
+IsWhyNotMade bytes turns Fault = Unit {0}
+IsWhyNotMade bytes turns Size = most_source_bytes < length bytes
+IsWhyNotMade bytes turns (Refused reason) = (length bytes ≤ most_source_bytes) × IsRefusedFor bytes reason
+IsWhyNotMade bytes turns DomainsDoNotFit = IsMisfit bytes turns
+IsWhyNotMade bytes turns (OverWeight weight) = IsOverweight bytes turns weight
+IsWhyNotMade bytes turns NoMemory = Unit {0}
 
 -- the run of the turns has a weight above the limit, and the sink took its line
 pub record TellsWeight (told : Option (List ℕ)) (turns : Turns) (old new : Option (List ℕ)) : Type 0 where
@@ -72,7 +73,7 @@ pub record TellsWeight (told : Option (List ℕ)) (turns : Turns) (old new : Opt
 -- the sink took a prefix of the text that some answer to the order of these bytes has, and the files' counts
 -- fit that answer
 pub record BeginsOrder (told : Option (List ℕ)) (turns : Turns) (file : List ℕ) (faults faults' : List ℕ → ℕ) (old new : Option (List ℕ)) : Type 0 where
-  pub outcome : Outcome
+  pub outcome : CommandOutcome
   pub text : List ℕ
   pub is : IsOrderAnswer told turns outcome text
   pub counts : CountsShow (Rose (faults file) (faults' file)) faults faults' outcome

@@ -1,4 +1,4 @@
--- How many interface signals a domain has at most.
+-- How many domains, channels and signals a system has at most.
 use Rattle.std.proofs.Common.{◌≡◌, ℕ, zero, suc, ◌+◌, ◌<◌, ◌≤◌, Bool, true, false, ◌&&◌, nat_eq, nat_le, cond, List, [], ◌∷◌, length, arith, refl, sym, ap, ◌∙◌}
 use Rattle.std.specs.List.{count_by}
 use Rattle.std.proofs.lemmas.Bool.Decides.{nat_tests}
@@ -10,7 +10,7 @@ use Rattle.kernel_terms.specs.Limits.{most_domains, most_channels, most_signals,
 use Rattle.kernel_terms.specs.TableEntries.{is_local, is_interface_of, interface_of, numbers_where, variables_of}
 use Rattle.kernel_terms.specs.WellFormed.{signals_of, all_below, is_within_limits, has_names, is_well_formed}
 
--- numbers, counted
+-- entries, counted
 
 one_more : {X : Type 0} (p : X → Bool) (n : ℕ) (x : X) (xs : List X) (b : Bool) → p x ≡ b → length (numbers_where p (suc n) xs) ≡ count_by p xs → length (numbers_where p n (x ∷ xs)) ≡ count_by p (x ∷ xs)
 one_more p n x xs b e h = ap (λ c. length (cond c (n ∷ numbers_where p (suc n) xs) (numbers_where p (suc n) xs))) e ∙ by b ∙ sym (ap (λ c. cond c 1 0 + count_by p xs) e) ∙ sym (sum_by-cons (λ y. cond (p y) 1 0) x xs)
@@ -19,7 +19,7 @@ one_more p n x xs b e h = ap (λ c. length (cond c (n ∷ numbers_where p (suc n
     by true = omega arith
     by false = omega arith
 
-numbers_count : {X : Type 0} (p : X → Bool) (n : ℕ) (xs : List X) → length (numbers_where p n xs) ≡ count_by p xs
+pub numbers_count : {X : Type 0} (p : X → Bool) (n : ℕ) (xs : List X) → length (numbers_where p n xs) ≡ count_by p xs
 numbers_count p n [] = refl
 numbers_count p n (x ∷ xs) = one_more p n x xs (p x) refl (numbers_count p (suc n) xs)
 
@@ -41,6 +41,12 @@ within system =
 
 le_of : (a b : ℕ) → nat_le a b ≡ true → a ≤ b
 le_of a b h = grind (arith, nat_tests)
+
+pub few_domains : (system : System) → length (domains_of system) ≤ most_domains
+few_domains system = le_of (length (domains_of system)) most_domains (both_left _ _ (within system))
+
+pub few_channels : (system : System) → length (tables_of system).channels ≤ most_channels
+few_channels system = le_of (length (tables_of system).channels) most_channels (both_left _ _ (both_right (nat_le (length (domains_of system)) most_domains) _ (within system)))
 
 all_step : (p : ℕ → Bool) (n d : ℕ) (b : Bool) → nat_eq d n ≡ b → p n ≡ true → d < suc n → (d < n → p d ≡ true) → p d ≡ true
 all_step p n d true e h l k = ap p (let s : d ≡ n = grind (arith, nat_tests) in s) ∙ h
