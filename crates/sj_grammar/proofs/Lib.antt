@@ -11,3 +11,4 @@ pub mod OneExpression
 pub mod CountedLimits
 pub mod OneTest
 pub mod OneProgram
+pub mod TreeRowLemmas
