@@ -1,17 +1,13 @@
 -- Small sources, read, and their trees.
 use Rattle.std.specs.Prelude.{Option, codes}
-use Rattle.std.proofs.Common.{◌≡◌, ℕ, zero, suc, Bool, true, false, List, [], ◌∷◌, drop, length, get_or, Some, None, refl, sym, ap, ◌∙◌, arith}
+use Rattle.std.proofs.Common.{◌≡◌, ℕ, true, false, List, [], ◌∷◌, length, Some, None, refl, sym, ap, ◌∙◌, arith}
 use Rattle.java_values.specs.declared.kind.Kind.{Kind}
 use Rattle.java_values.specs.declared.kind.Kind.TheVariants as kind
 use Rattle.java_values.specs.declared.op.Op1.TheVariants as op1
 use Rattle.java_values.specs.declared.op.Op2.{Op2}
 use Rattle.java_values.specs.declared.op.Op2.TheVariants as op2
-use Rattle.sj_lexer.specs.declared.head.Head.{Head}
-use Rattle.sj_lexer.specs.declared.head.Head.TheVariants.{AtEnd, Between, Lexeme, Bad}
-use Rattle.sj_lexer.specs.declared.token.Class.TheVariants as class
 use Rattle.sj_lexer.specs.declared.token.Token.{Token}
-use Rattle.sj_lexer.specs.definitions.Heads.{head}
-use Rattle.sj_lexer.specs.definitions.Readings.{Piece, Gap, Text, Leads, AreTokens, tokens_from}
+use Rattle.sj_lexer.specs.definitions.Readings.{AreTokens}
 use Rattle.sj_ast.specs.declared.name.Name.{Name}
 use Rattle.sj_ast.specs.declared.expression.Raw as raw
 use Rattle.sj_ast.specs.declared.expression.Raw.TheOpen.{Raw-F}
@@ -40,55 +36,14 @@ use Rattle.sj_grammar.specs.definitions.SourceTrees.{IsMadeOf, SourceTree, IsExp
 use Rattle.sj_grammar.proofs.OneExpression.{one-expression}
 use Rattle.sj_grammar.proofs.OneTest.{one-test}
 use Rattle.sj_grammar.proofs.OneProgram.{block-same, one-program}
+use Rattle.sj_grammar.proofs.SourcePieces.{are_all, tokens_of, token_in, are_tokens}
 use Rattle.sj_grammar.specs.TreeRows.{Each, name_at, literal_at, least_int, variable_at, signal_at, stmt_at, block_from, pure_at, valued_at, signal_port, channel_port, operands, groupings, tests, plain_statements, kinds, combinations, updates, blocks, branches, programs, wrong_expressions, wrong_tests, wrong_blocks, wrong_programs}
-
--- the pieces of a source, at most so many
-
-abbrev pieces_behind : (List ℕ → List Piece) → List ℕ → Head → List Piece
-pieces_behind more bytes (Between k) = Gap k ∷ more (drop k bytes)
-pieces_behind more bytes (Lexeme class k) = Text class k ∷ more (drop k bytes)
-pieces_behind more bytes _ = []
-
-abbrev pieces : ℕ → List ℕ → List Piece
-pieces zero bytes = []
-pieces (suc n) [] = []
-pieces (suc n) (b ∷ bytes) = pieces_behind (λ rest. pieces n rest) (b ∷ bytes) (head (b ∷ bytes))
-
--- nothing stands behind them
-
-abbrev all_behind : (List ℕ → Bool) → List ℕ → Head → Bool
-all_behind more bytes (Between k) = more (drop k bytes)
-all_behind more bytes (Lexeme class k) = more (drop k bytes)
-all_behind more bytes _ = false
-
-abbrev are_all : ℕ → List ℕ → Bool
-are_all n [] = true
-are_all zero (b ∷ bytes) = false
-are_all (suc n) (b ∷ bytes) = all_behind (λ rest. are_all n rest) (b ∷ bytes) (head (b ∷ bytes))
-
-lead_behind : (n : ℕ) (next : (rest : List ℕ) → are_all n rest ≡ true → Leads rest (pieces n rest) []) (bytes : List ℕ) (x : Head) → head bytes ≡ x → all_behind (λ rest. are_all n rest) bytes x ≡ true → Leads bytes (pieces_behind (λ rest. pieces n rest) bytes x) []
-lead_behind n next bytes AtEnd e h = cc
-lead_behind n next bytes (Between k) e h = (e, next (drop k bytes) h)
-lead_behind n next bytes (Lexeme class k) e h = (e, next (drop k bytes) h)
-lead_behind n next bytes (Bad reason offset) e h = cc
-
-lead : (n : ℕ) (bytes : List ℕ) → are_all n bytes ≡ true → Leads bytes (pieces n bytes) []
-lead zero [] h = refl
-lead (suc n) [] h = refl
-lead zero (b ∷ bytes) h = cc
-lead (suc n) (b ∷ bytes) h = lead_behind n (λ rest all. lead n rest all) (b ∷ bytes) (head (b ∷ bytes)) refl h
-
-abbrev tokens_of : List ℕ → List Token
-tokens_of source = tokens_from 0 (pieces (length source) source)
-
-abbrev token_in : List ℕ → ℕ → Token
-token_in source n = get_or (tokens_of source) n (record { class = class.Name; start = 0; end = 0 })
 
 -- what the tokens of a whole source print is its sentence
 made : {S T : Type 0} (Is : S → Type 0) (print_all : S → List Token → List Token) (of : List ℕ → S → T) {source : List ℕ} {tree : T} (s : (ℕ → Token) → S) → are_all (length source) source ≡ true → Is (s (token_in source)) → print_all (s (token_in source)) [] ≡ tokens_of source → tree ≡ of source (s (token_in source)) → IsMadeOf Is print_all of source tree
 made Is print_all of {source} {tree} s all is printed stands = record {
   tokens = tokens_of source;
-  are = record { pieces = pieces (length source) source; leads = lead (length source) source all; are = refl };
+  are = are_tokens source all;
   sentence = s (token_in source);
   is_sentence = is;
   printed = printed;
