@@ -1,5 +1,5 @@
 -- Which domain each signal and channel belongs to.
-use Rattle.std.proofs.Common.{◌≡◌, ◌≢◌, ℕ, zero, suc, ◌+◌, ◌<◌, Bool, true, false, ◌||◌, ◌==◌, cond, List, [], ◌∷◌, ◌++◌, length, map, drop, replicate, get_or, Option, Some, None, ap, refl, sym, ◌∙◌, subst, append_assoc, arith, add-one, length-append, append-nil, inl, inr, ◌⊎◌, nat_eq}
+use Rattle.std.proofs.Common.{◌≡◌, ◌≢◌, ℕ, zero, suc, ◌+◌, ◌<◌, Bool, true, false, ◌||◌, ◌==◌, cond, List, [], ◌∷◌, ◌++◌, length, map, drop, replicate, get_or, Option, Some, None, ap, refl, sym, ◌∙◌, subst, append_assoc, arith, length-append, append-nil, inl, inr, ◌⊎◌, nat_eq}
 use Rattle.std.specs.Prelude.{MatchBool}
 use Rattle.std.proofs.lemmas.Bool.Decides.{nat_tests}
 use Rattle.std.proofs.lemmas.List.{length-replicate}

@@ -1,10 +1,10 @@
 -- The ports of a program, one after another.
-use Rattle.std.proofs.Common.{◌≡◌, ℕ, ◌+◌, ◌≤◌, ◌<◌, true, false, List, [], ◌∷◌, ◌++◌, length, drop, get_or, map, Some, None, ap, refl, sym, ◌∙◌, append_assoc, append-nil, subst, arith, length-append}
+use Rattle.std.proofs.Common.{◌≡◌, ℕ, ◌≤◌, true, false, List, [], ◌∷◌, ◌++◌, length, map, Some, None, ap, refl, sym, ◌∙◌, append_assoc, append-nil, subst, arith, length-append}
 use Rattle.java_values.specs.Names.{are_distinct}
 use Rattle.std.proofs.lemmas.List.{map-append}
 use Rattle.sj_ast.specs.declared.name.Name.{Name}
 use Rattle.sj_ast.specs.declared.port.Port as port
-use Rattle.sj_accept.specs.Optional.{all_some, with_all, with_first}
+use Rattle.sj_accept.specs.Optional.{all_some}
 use Rattle.sj_accept.specs.definitions.Ports.{Port, SignalPort, ChannelPort, port_of, ports_of, Interface, port_interface, port_name, port_names}
 use Rattle.sj_accept.specs.declared.names.PortKind.{PortKind}
 use Rattle.sj_accept.specs.declared.names.PortKind.TheVariants as kind

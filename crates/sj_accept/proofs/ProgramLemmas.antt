@@ -1,6 +1,5 @@
 -- The program of a tree.
-use Rattle.std.proofs.Common.{◌≡◌, ℕ, suc, ◌≤◌, ◌<◌, true, List, [], ◌∷◌, length, map, Some, None, ap, refl, sym, ◌∙◌, subst, arith}
-use Rattle.std.proofs.lemmas.List.{length-map}
+use Rattle.std.proofs.Common.{◌≡◌, suc, ◌≤◌, ◌<◌, true, List, [], ◌∷◌, length, map, Some, None, ap, refl, sym, ◌∙◌, subst, arith}
 use Rattle.std.specs.Prelude.{Option}
 use Rattle.kernel_terms.specs.declared.term.Term.{Term}
 use Rattle.kernel_terms.specs.declared.tables.Tables.{Tables}
@@ -9,8 +8,6 @@ use Rattle.kernel_terms.specs.Systems.{tables_of, domains_of}
 use Rattle.kernel_terms.specs.Limits.{most_domains, most_channels}
 use Rattle.kernel_terms.specs.WellFormed.{is_well_formed}
 use Rattle.kernel_terms.specs.Statements.{statement}
-use Rattle.sj_ast.specs.declared.name.Name.{Name}
-use Rattle.sj_ast.specs.declared.port.Port as port
 use Rattle.sj_grammar.specs.definitions.Trees.{SourceBlock}
 use Rattle.sj_accept.specs.Optional.{all_some}
 use Rattle.sj_accept.specs.BuiltTerms.{AreBuilt}
@@ -20,7 +17,7 @@ use Rattle.sj_accept.specs.definitions.Sources.{SourceTree}
 use Rattle.sj_accept.specs.definitions.Ports.{Port, ports_of, Interface, port_interface}
 use Rattle.sj_accept.specs.definitions.Lowering.{block_term}
 use Rattle.sj_accept.specs.definitions.Programs.{Program, program_of, with_ports, with_terms, domain_statements, tables_for}
-use Rattle.sj_accept.specs.definitions.Accepted.{KeepsOwners, KeepsNamesAndOwners}
+use Rattle.sj_accept.specs.definitions.Accepted.{KeepsOwners}
 use Rattle.sj_accept.proofs.ListLemmas.{first_of_all}
 use Rattle.sj_accept.proofs.PortLimitLemmas.{ports_within}
 use Rattle.sj_accept.proofs.SystemLemmas.{well_formed}

@@ -1,5 +1,5 @@
 -- A source is refused for one reason at most, and no accepted source is refused.
-use Rattle.std.proofs.Common.{◌≡◌, ℕ, Bool, true, false, List, [], ◌∷◌, ◌++◌, length, ap, refl, sym, ◌∙◌, subst, append_assoc, append-nil, Some}
+use Rattle.std.proofs.Common.{◌≡◌, ℕ, true, false, List, [], ◌∷◌, ◌++◌, length, ap, refl, sym, ◌∙◌, subst, append_assoc, append-nil, Some}
 use Rattle.std.specs.Prelude.{Option}
 use Rattle.sj_lexer.specs.declared.token.Token.{Token}
 use Rattle.sj_lexer.specs.declared.head.Fault.{Fault}
@@ -7,15 +7,15 @@ use Rattle.sj_lexer.specs.declared.head.Fault.TheVariants as fault
 use Rattle.sj_lexer.specs.definitions.Readings as readings
 use Rattle.sj_grammar.specs.definitions.Machine.{Symbol, next, program}
 use Rattle.sj_grammar.specs.definitions.Walks.{level_after, operators_after, is_too_deep}
-use Rattle.sj_grammar.specs.definitions.Limits.{ReadsTo, IsWithin, IsDeep, IsTooDeepBehind}
+use Rattle.sj_grammar.specs.definitions.Limits.{ReadsTo, IsDeep, IsTooDeepBehind}
 use Rattle.sj_grammar.specs.definitions.Sentences.{AreProgram, BeginProgram}
 use Rattle.expr_parser.specs.definitions.Longest.{IsLongest, place_of}
 use Rattle.stmt_parser.specs.definitions.Parsing.{IsTreeOf, IsRefused, IsTooDeep, SyntaxAt, TooDeepAt}
 use Rattle.sj_accept.specs.declared.refusal.Refusal.{Refusal}
 use Rattle.sj_accept.specs.declared.refusal.Refusal.TheVariants as refusal
 use Rattle.sj_accept.specs.definitions.Sources.{SourceTree, IsParsed}
-use Rattle.sj_accept.specs.definitions.Accepted.{IsSourceOf, IsAccepted}
-use Rattle.sj_accept.specs.definitions.Refusals.{IsSyntaxAt, IsTooDeepAt, IsUnaccepted, IsRefusedFor}
+use Rattle.sj_accept.specs.definitions.Accepted.{IsAccepted}
+use Rattle.sj_accept.specs.definitions.Refusals.{IsUnaccepted, IsRefusedFor}
 
 -- two ways to cut one list
 

@@ -15,7 +15,6 @@ use Rattle.sj_grammar.specs.definitions.Programs as grammar
 use Rattle.sj_grammar.specs.definitions.Programs.{NoPort, PortThen, print_ports, IsPorts, print_program, IsProgram}
 use Rattle.sj_grammar.specs.definitions.Trees as trees
 use Rattle.sj_grammar.specs.definitions.Trees.{tree_of}
-use Rattle.stmt_parser.specs.definitions.Parsing.{IsTreeOf}
 use Rattle.sj_accept.specs.Optional.{all_some, with_first}
 use Rattle.sj_accept.specs.definitions.Sources.{SourceTree, IsParsed}
 use Rattle.sj_accept.specs.definitions.Ports.{Port, SignalPort, ChannelPort, port_of, ports_of, port_name, port_names, pure_output, int_channel}

@@ -1,5 +1,5 @@
 -- Statements and blocks, and their terms.
-use Rattle.std.proofs.Common.{◌≡◌, ℕ, ◌≤◌, drop, List, [], ◌∷◌, ◌++◌, length, map, Some, None, ap, refl, sym, ◌∙◌}
+use Rattle.std.proofs.Common.{◌≡◌, ℕ, ◌≤◌, drop, List, [], ◌∷◌, ◌++◌, length, map, Some, None, ap, sym, ◌∙◌}
 use Rattle.std.specs.Prelude.{Option, option_map}
 use Rattle.kernel_terms.specs.declared.term.Term.{Term}
 use Rattle.sj_ast.specs.declared.name.Name.{Name}

@@ -1,5 +1,5 @@
 -- The rules on loops and weight, and what is accepted.
-use Rattle.std.proofs.Common.{◌≡◌, ℕ, zero, suc, ◌≤◌, ◌<◌, Bool, true, false, ◌&&◌, ◌↔◌, List, [], ◌∷◌, length, map, get_or, Some, arith, refl, sym, ap, ◌∙◌, subst}
+use Rattle.std.proofs.Common.{◌≡◌, ℕ, zero, suc, ◌≤◌, Bool, true, false, ◌&&◌, ◌↔◌, List, [], ◌∷◌, length, map, get_or, Some, arith, refl, sym, ap, ◌∙◌, subst}
 use Rattle.std.specs.List.{list_all}
 use Rattle.kernel_terms.specs.declared.term.Term.{Term}
 use Rattle.kernel_terms.specs.declared.system.System.{System}
@@ -14,7 +14,6 @@ use Rattle.sj_accept.specs.Lowered.{IsSystemOf, HasNoSystem}
 use Rattle.sj_accept.specs.definitions.Sources.{SourceTree, IsParsed}
 use Rattle.sj_accept.specs.definitions.Ports.{Interface}
 use Rattle.sj_accept.specs.definitions.Programs.{Program, program_of, domain_statements}
-use Rattle.sj_accept.specs.definitions.Accepted.{IsSourceOf}
 use Rattle.sj_accept.specs.definitions.Systems.{Accepts}
 use Rattle.sj_accept.specs.definitions.Refusals.{IsUnaccepted}
 

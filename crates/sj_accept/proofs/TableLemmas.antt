@@ -1,8 +1,8 @@
 -- The tables of domains that keep the rules on owners.
-use Rattle.std.proofs.Common.{◌≡◌, ℕ, zero, suc, ◌+◌, ◌<◌, ◌≤◌, Bool, true, false, nat_eq, nat_lt, cond, List, [], ◌∷◌, length, map, drop, get_or, Option, Some, None, ap, refl, sym, ◌∙◌, subst, arith}
+use Rattle.std.proofs.Common.{◌≡◌, ℕ, zero, suc, ◌+◌, ◌<◌, ◌≤◌, Bool, true, false, nat_eq, nat_lt, cond, List, [], ◌∷◌, length, map, get_or, Option, Some, None, ap, refl, sym, ◌∙◌, subst, arith}
 use Rattle.std.proofs.lemmas.List.{length-map}
 use Rattle.std.specs.Prelude.{unwrap_or}
-use Rattle.std.specs.List.{count_by, sum_by}
+use Rattle.std.specs.List.{count_by}
 use Rattle.std.proofs.lemmas.List.Sums.{sum_by-cons}
 use Rattle.std.proofs.lemmas.Bool.Decides.{nat_tests}
 use Rattle.java_values.specs.declared.kind.Kind.TheVariants.{Int}
@@ -21,7 +21,7 @@ use Rattle.sj_accept.specs.definitions.Ports.{Interface}
 use Rattle.sj_accept.specs.definitions.Programs.{emits_of, sends_of, receives_of, owner_of, signals_from, channels_from, tables_for}
 use Rattle.sj_accept.specs.definitions.Accepted.{Uses, HasOne}
 use Rattle.sj_accept.specs.Owners.{numbers_of, limit_of, AreOwners, IsShared, owner_in, count_of, AreFewEach, IsFull, IsPair, AreChannels, IsUnpaired, AreTablesOf, BreaksOwners}
-use Rattle.sj_accept.proofs.OwnerLemmas.{same_default, some_same, uses_below, first_uses, stands_none}
+use Rattle.sj_accept.proofs.OwnerLemmas.{some_same, uses_below, first_uses, stands_none}
 
 lt_of : (a b : ℕ) → nat_lt a b ≡ true → a < b
 lt_of a b h = grind (arith, nat_tests)

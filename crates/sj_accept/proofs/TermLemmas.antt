@@ -1,9 +1,8 @@
 -- A tree of the built forms, one layer at a time.
 use Rattle.std.proofs.Common.{◌≡◌, ℕ, ℤ, ◌<◌, Bool, true, false, ◌&&◌, List, [], ◌∷◌, ◌++◌, map, ap, ◌∙◌, sym, refl, subst, nat_lt, ◌≤◌, length, length-append, arith}
-use Rattle.std.specs.Prelude.{Option, None, int_le}
+use Rattle.std.specs.Prelude.{Option, None}
 use Rattle.std.specs.List.{list_all}
 use Rattle.std.proofs.lemmas.Bool.Decides.{nat_tests}
-use Rattle.java_values.specs.Kinds.{lowest, highest}
 use Rattle.java_values.specs.declared.kind.Kind.{Kind}
 use Rattle.java_values.specs.declared.kind.Kind.TheVariants.{Int}
 use Rattle.kernel_terms.specs.declared.expr.Expr.{Expr}

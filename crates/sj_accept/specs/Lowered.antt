@@ -1,5 +1,5 @@
 -- What the steps of the lowering answer.
-use Rattle.std.specs.Prelude.{◌≡◌, ℕ, ◌≤◌, true, List, length, map, Some}
+use Rattle.std.specs.Prelude.{◌≡◌, ◌≤◌, true, List, length, map, Some}
 use Rattle.std.specs.List.{list_all}
 use Rattle.java_values.specs.Names.{is_name, are_distinct}
 use Rattle.kernel_terms.specs.declared.term.Term.{Term}

@@ -12,8 +12,8 @@ use Rattle.sj_ast.specs.declared.name.Name.{Name}
 use Rattle.sj_ast.specs.declared.expression.Raw as raw
 use Rattle.sj_ast.specs.declared.expression.Raw.TheOpen.{Raw-F}
 use Rattle.sj_ast.specs.declared.statement.Form.TheOpen.{Form-F, Block-F, Stmt-F}
-use Rattle.sj_ast.specs.declared.statement.Form.TheFolds.{fold-Form, fold-Block, fold-Stmt}
-use Rattle.sj_grammar.specs.definitions.Trees.{SourceForm, SourceStmt, SourceBlock}
+use Rattle.sj_ast.specs.declared.statement.Form.TheFolds.{fold-Block, fold-Stmt}
+use Rattle.sj_grammar.specs.definitions.Trees.{SourceStmt, SourceBlock}
 use Rattle.sj_accept.specs.Optional.{all_some}
 use Rattle.sj_accept.specs.definitions.Ports.{Interface}
 

@@ -1,6 +1,6 @@
-use Rattle.std.proofs.Common.{drop, ◌+◌, arith}
+use Rattle.std.proofs.Common.{drop, ◌+◌}
 use Rattle.sj_accept.specs.PortNames.{names_of}
-use Rattle.sj_accept.proofs.StatementLemmas.{domains_more, domains_end}
+use Rattle.sj_accept.proofs.StatementLemmas.{domains_more}
 use Rattle.sj_accept.proofs.domains.domain_terms.Goals as goal
 
 pub loop-i-preserved : goal.loop-i-preserved

@@ -1,6 +1,6 @@
 use Rattle.std.proofs.Common.{drop, ◌+◌}
 use Rattle.sj_accept.specs.PortNames.{names_of}
-use Rattle.sj_accept.proofs.PortLemmas.{ports_start, ports_end, ports_none, refused_of, over_of, more_of}
+use Rattle.sj_accept.proofs.PortLemmas.{ports_start, ports_none, refused_of, over_of, more_of}
 use Rattle.sj_accept.proofs.ports.declared_names.Goals as goal
 
 pub loop-i-init : goal.loop-i-init

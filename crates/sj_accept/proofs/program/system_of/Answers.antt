@@ -1,5 +1,4 @@
-use Rattle.std.proofs.Common.{length, map, ap, sym, ◌∙◌, arith}
-use Rattle.kernel_terms.specs.Statements.{statement}
+use Rattle.std.proofs.Common.{length, ap, ◌∙◌, arith}
 use Rattle.sj_accept.specs.PortNames.{names_of}
 use Rattle.sj_accept.proofs.ProgramLemmas.{many_domains, no_names, no_terms, no_tables, few_terms, formed, is_system}
 use Rattle.sj_accept.proofs.program.system_of.Goals as goal
