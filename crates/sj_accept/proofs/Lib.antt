@@ -14,4 +14,8 @@ pub mod StatementLemmas
 pub mod SourceLemmas
 pub mod ProgramLemmas
 pub mod RefusalLemmas
+pub mod LoweredTrees
+pub mod SmallSources
+pub mod SmallPrograms
+pub mod UnacceptedSources
 pub mod RowLemmas

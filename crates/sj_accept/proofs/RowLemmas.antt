@@ -1,5 +1,5 @@
 -- Small sources and their refusals.
-use Rattle.std.proofs.Common.{◌≡◌, ◌↔◌, true, false, List, [], ◌∷◌, codes, refl, ap, ◌∙◌}
+use Rattle.std.proofs.Common.{◌≡◌, ◌↔◌, ℕ, true, false, List, [], ◌∷◌, ◌++◌, codes, refl, ap, ◌∙◌, subst, drop, length}
 use Rattle.sj_lexer.specs.declared.head.Fault.TheVariants as fault
 use Rattle.sj_lexer.specs.declared.token.Token.{Token}
 use Rattle.sj_lexer.specs.declared.token.Class.TheVariants.{Reserved, Mark}
@@ -7,10 +7,16 @@ use Rattle.sj_lexer.specs.declared.token.Word.TheVariants as word
 use Rattle.sj_lexer.specs.declared.token.Mark.TheVariants as mark
 use Rattle.sj_lexer.specs.definitions.Readings as readings
 use Rattle.sj_lexer.specs.definitions.Readings.{Gap, Text}
+use Rattle.sj_grammar.specs.definitions.Roles.{has}
 use Rattle.sj_grammar.specs.definitions.Machine.{program, can_read, reads}
-use Rattle.sj_grammar.specs.definitions.Limits.{IsWithin}
+use Rattle.sj_grammar.specs.definitions.Walks.{TooDeep, walk}
+use Rattle.sj_grammar.specs.definitions.Limits.{IsWithin, Tells, Sinks}
 use Rattle.sj_grammar.specs.definitions.Sentences.{AreProgram, BeginProgram}
-use Rattle.sj_accept.specs.definitions.Refusals.{IsSyntaxAt}
+use Rattle.expr_parser.specs.definitions.Longest.{place_of}
+use Rattle.sj_accept.specs.definitions.Refusals.{IsSyntaxAt, IsTooDeepAt}
+use Rattle.sj_accept.specs.SmallPrograms.{many_levels, many_operators}
+use Rattle.sj_accept.proofs.UnacceptedSources.{Tell}
+use Rattle.sj_grammar.proofs.SourcePieces.{are_all, tokens_of, are_tokens}
 
 pub bad_byte : readings.IsRefused (codes "system @") fault.BadByte 7
 bad_byte = record { pieces = Text (Reserved word.System) 6 ∷ Gap 1 ∷ []; rest = codes "@"; offset = 0; leads = (refl, (refl, refl)); bad = refl; at = refl }
@@ -86,3 +92,25 @@ at_token b = record {
 
     stop : (t : Token) → semicolon ≡ t → BeginProgram (system_token ∷ t ∷ []) → ⊥
     stop t e c = apart (ap (λ u. can_read program (system_token ∷ u ∷ [])) e ∙ (b (system_token ∷ t ∷ [])).0 c)
+
+-- sources that are too deep
+
+deep_at : Begins → Tell → (source : List ℕ) (rest : List Token) → are_all (length source) source ≡ true → walk program 0 0 (tokens_of source) ≡ TooDeep rest → IsTooDeepAt source (place_of rest (length source))
+deep_at begins tell source rest all stops =
+    let s : Sinks program 0 0 (tokens_of source) rest = subst (λ o. Tells program 0 0 (tokens_of source) o) stops (tell program 0 0 (tokens_of source)) in
+    record {
+      tokens = tokens_of source;
+      are = are_tokens source all;
+      at = record {
+        run = s.run;
+        rest = rest;
+        refused = record { token = s.token; after = s.after; at = s.at; is = s.is; begins = (begins (s.run ++ s.token ∷ [])).1 (ap has s.steps_are); deep = s.deep };
+        place_is = refl;
+      };
+    }
+
+pub deep_level : Begins → Tell → IsTooDeepAt many_levels 81
+deep_level begins tell = deep_at begins tell many_levels (drop 68 (tokens_of many_levels)) refl refl
+
+pub deep_operator : Begins → Tell → IsTooDeepAt many_operators 282
+deep_operator begins tell = deep_at begins tell many_operators (drop 265 (tokens_of many_operators)) refl refl

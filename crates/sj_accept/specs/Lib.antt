@@ -6,3 +6,4 @@ pub mod PortNames
 pub mod Owners
 pub mod StaticRules
 pub mod Lowered
+pub mod SmallPrograms

@@ -11,3 +11,5 @@ pub mod OneExpression
 pub mod CountedLimits
 pub mod OneTest
 pub mod OneProgram
+pub mod SourcePieces
+pub mod TreeRowLemmas

@@ -1,2 +1,3 @@
 pub mod definitions
 pub mod Rows
+pub mod TreeRows

@@ -7,6 +7,7 @@ pub mod Statements
 pub mod Programs
 pub mod Sentences
 pub mod Trees
+pub mod SourceTrees
 pub mod Machine
 pub mod Walks
 pub mod Limits

@@ -6,10 +6,17 @@ ghost use Rattle.sj_grammar.specs.definitions.Expressions.{Expr, print, IsExpr};
 ghost use Rattle.sj_grammar.specs.definitions.Tests.{Test, print_test, IsTest};
 ghost use Rattle.sj_grammar.specs.definitions.Programs.{Program, print_program, IsProgram};
 ghost use Rattle.sj_grammar.specs.definitions.Sentences.{AreExpression, AreTest, AreProgram, BeginExpression, BeginTest, BeginProgram};
+ghost use Rattle.sj_ast.specs.declared.name.Name.{Name};
+ghost use Rattle.sj_ast.specs.declared.expression.Raw.{Raw};
+ghost use Rattle.sj_ast.specs.declared.test.Test as signal_test;
+ghost use Rattle.sj_grammar.specs.definitions.Trees.{SourceBlock};
+ghost use Rattle.sj_grammar.specs.definitions.SourceTrees.{SourceTree, IsExpressionOf, IsTestOf, IsBlockOf, IsProgramOf};
 ghost use Rattle.sj_grammar.specs.definitions.Machine.{Symbol, expression, test, program, can_read, reads};
 ghost use Rattle.sj_grammar.specs.definitions.Walks.{walk};
 ghost use Rattle.sj_grammar.specs.definitions.Limits.{Tells, IsWithin, IsTooDeepBehind};
 ghost use Rattle.sj_grammar.specs.definitions.Counts.{AreWithin, IsOverBehind};
+
+use sj_lexer::sources_have_one_reading;
 
 /// Tokens begin an expression, a test or a program exactly where the machine can read them.
 pub fn prefixes_are_what_can_be_read()
@@ -45,3 +52,13 @@ pub fn limits_are_counted()
     ensures over_in_expressions { (d n : ℕ) (run : List Token) (token : Token) (after : List Token) → IsTooDeepBehind expression d n run token after → IsOverBehind true d n run token after }
     ensures over_in_tests { (d n : ℕ) (run : List Token) (token : Token) (after : List Token) → IsTooDeepBehind test d n run token after → IsOverBehind false d n run token after }
 {}
+
+/// A source has one tree at most as an expression, and as a test, a block and a program.
+pub fn sources_have_one_tree()
+    ensures expressions { (source : List ℕ) (t u : Raw Name) → IsExpressionOf source t → IsExpressionOf source u → t ≡ u }
+    ensures tests { (source : List ℕ) (t u : signal_test.Test Name) → IsTestOf source t → IsTestOf source u → t ≡ u }
+    ensures blocks { (source : List ℕ) (t u : SourceBlock) → IsBlockOf source t → IsBlockOf source u → t ≡ u }
+    ensures programs { (source : List ℕ) (t u : SourceTree) → IsProgramOf source t → IsProgramOf source u → t ≡ u }
+{
+    sources_have_one_reading();
+}
