@@ -1,6 +1,6 @@
 -- What waits for a sink, one step after another.
-use Rattle.std.proofs.Common.{◌≡◌, ℕ, ◌+◌, ◌-◌, ◌≤◌, List, [], ◌++◌, length, take, drop, refl, sym, ap, ◌∙◌, subst, arith, append_assoc, length-take}
-use Rattle.std.proofs.lemmas.List.{take-append-drop, drop-append-le, append-nil, drop-drop, drop_all, take_rest}
+use Rattle.std.proofs.Common.{◌≡◌, ℕ, ◌+◌, ◌-◌, ◌≤◌, List, [], ◌++◌, length, take, drop, min, refl, sym, ap, ◌∙◌, subst, arith, append_assoc, length-take}
+use Rattle.std.proofs.lemmas.List.{take-append-drop, drop-append-le, append-nil, drop-drop, drop_all, take_all, take_rest}
 use Rattle.std.proofs.lemmas.Slice.{take-put_mid, between_is}
 use Rattle.std.proofs.Math.Seq.{take-add}
 use Rattle.std.specs.Prelude.{Option, Some, None}
@@ -29,6 +29,12 @@ takes_nothing (Some old) = ap Some (sym (append-nil old))
 -- bytes that only wait
 pub gathers_kept : (a : Option (List ℕ)) (u x : List ℕ) → Gathers a a u (u ++ x) x
 gathers_kept a u x = record { part = []; takes = takes_nothing a; split = refl }
+
+-- a text for which there is room
+pub gathers_fitting : (a : Option (List ℕ)) (u w xs : List ℕ) (n room : ℕ) → length xs ≤ room → n ≡ min (length xs) room → w ≡ u ++ take n xs → Gathers a a u w xs
+gathers_fitting a u w xs n room le is e =
+    let whole : take n xs ≡ xs = take_all n xs (omega (arith, is)) in
+    subst (λ l. Gathers a a u l xs) (sym (e ∙ ap (λ l. u ++ l) whole)) (gathers_kept a u xs)
 
 pub gathers_nothing : (a : Option (List ℕ)) (u : List ℕ) → Gathers a a u u []
 gathers_nothing a u = record { part = []; takes = takes_nothing a; split = sym (append-nil u) }

@@ -61,8 +61,23 @@ impl Gathered {
 
     /// Puts the bytes behind those that wait. Where the room is used up, the sink takes what waits.
     /// After a `Fault` a prefix of the bytes was put, and no byte is lost.
-    #[tactic(auto, using(crate::proofs::GatheringLemmas::put_steps))]
+    #[tactic(auto, using(crate::proofs::GatheringLemmas::gathers_fitting))]
     pub fn put<K: Sink>(&mut self, out: &mut K, bytes: &[u8]) -> Result<(), WriteError>
+        ensures ok { OnOk result (Gathers (K.taken out.old) (K.taken out.new) (waiting self.old) (waiting self.new) bytes.now) }
+        ensures puts_prefix { OnErr result (GathersPrefix (K.taken out.old) (K.taken out.new) (waiting self.old) (waiting self.new) bytes.now) }
+        ensures cause { OnErr result (Rose (K.faults out.old) (K.faults out.new)) }
+        ensures later { K.faults out.old ≤ K.faults out.new }
+    {
+        if bytes.len() <= ROOM - self.to {
+            self.keep(bytes);
+            return Ok(());
+        }
+        self.put_parts(out, bytes)
+    }
+
+    // Puts the bytes, as many at a time as there is room for.
+    #[tactic(auto, using(crate::proofs::GatheringLemmas::put_steps))]
+    fn put_parts<K: Sink>(&mut self, out: &mut K, bytes: &[u8]) -> Result<(), WriteError>
         ensures ok { OnOk result (Gathers (K.taken out.old) (K.taken out.new) (waiting self.old) (waiting self.new) bytes.now) }
         ensures puts_prefix { OnErr result (GathersPrefix (K.taken out.old) (K.taken out.new) (waiting self.old) (waiting self.new) bytes.now) }
         ensures cause { OnErr result (Rose (K.faults out.old) (K.faults out.new)) }

@@ -1,6 +1,6 @@
 use Rattle.std.proofs.Common.{◌-◌, ◌≤◌, length, take}
 use Rattle.sj_io.specs.definitions.Gathers.{waiting, Gathers}
-use Rattle.sj_io.proofs.gathered.Gathered.put.Given as goal
+use Rattle.sj_io.proofs.gathered.Gathered.put_parts.Given as goal
 
 abbrev pub invariant-loop-done : goal.invariant-loop-done
 invariant-loop-done g l =
