@@ -5,8 +5,5 @@ pub mod SourceSystemLemmas
 pub mod OrderLemmas
 pub mod WordLemmas
 pub mod ServeLemmas
-mod LoweredTrees
-mod SmallSources
-mod SmallPrograms
 pub mod RowLemmas
 pub mod RendezvousRow

@@ -15,9 +15,10 @@ use Rattle.domain_core.proofs.lemmas.runs.StatesBetweenTicks.{put_apart}
 use Rattle.domain_core.proofs.lemmas.runs.WorkedRuns.{ticked, zeros, either, joined, no_join, one_join}
 use Rattle.sj_main.specs.declared.commands.Turns.TheVariants.{Each}
 use Rattle.sj_main.specs.definitions.Verdicts.{IsTextOfRun}
-use Rattle.sj_main.proofs.SmallSources.{rendezvous_source}
-use Rattle.sj_main.proofs.SmallPrograms.{setup_with, rendezvous, two_domains, rendezvous_is_source, rendezvous_statements}
-use Rattle.sj_main.proofs.RowLemmas.{zero_text, one_text, two_text, three_text, all_none, all_more, AreWaitless, waitless_both, Makes, turn_joined, turn_taken, IsShownBy, told_run}
+use Rattle.sj_accept.specs.SmallPrograms.{rendezvous}
+use Rattle.sj_accept.proofs.SmallSources.{rendezvous_source}
+use Rattle.sj_accept.proofs.SmallPrograms.{two_domains, rendezvous_is_source, rendezvous_statements}
+use Rattle.sj_main.proofs.RowLemmas.{setup_with, zero_text, one_text, two_text, three_text, all_none, all_more, AreWaitless, waitless_both, Makes, turn_joined, turn_taken, IsShownBy, told_run}
 
 abbrev setup : Setup
 setup = setup_with rendezvous two_domains

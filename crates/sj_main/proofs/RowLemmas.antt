@@ -6,7 +6,7 @@ use Rattle.kernel_terms.specs.Marks.{Going, Ended, is_over}
 use Rattle.kernel_terms.specs.Statements.{Stmt, Nothing, Pause, Emit, Seq, Loop}
 use Rattle.kernel_rules.specs.definitions.Signals.{Emission, put_at}
 use Rattle.kernel_rules.specs.definitions.TickRule.{Tick, Ticks, quiet, ends_with, as_whole}
-use Rattle.kernel_rules.specs.definitions.LegalTick.{is_tick_code, shown_statuses}
+use Rattle.kernel_rules.specs.definitions.LegalTick.{no_inputs, is_tick_code, shown_statuses}
 use Rattle.tick_log.specs.definitions.Runs.{RunState, log_of, tick_count}
 use Rattle.tick_log.specs.definitions.RunText.{run_text}
 use Rattle.domain_core.specs.definitions.runs.Systems.{Setup, SystemState, Move, MakesTick, IsSystem, IsFresh, WaitsToSend, WaitsToReceive, start, domain_count, channel_count}
@@ -24,8 +24,13 @@ use Rattle.sj_accept.specs.definitions.Accepted.{IsSourceOf}
 use Rattle.sj_main.specs.definitions.Commands.{turns_for, FitDomains, budgets_for}
 use Rattle.sj_main.specs.definitions.RunWeight.{most_run_weight, run_weight}
 use Rattle.sj_main.specs.definitions.Verdicts.{IsTextOfRun}
-use Rattle.sj_main.proofs.SmallSources.{empty_source, blink_source, loop_source}
-use Rattle.sj_main.proofs.SmallPrograms.{setup_with, empty, blink, blinks, looping, loops, loop_body, empty_is_source, blink_is_source, loop_is_source, empty_statements, blink_statements, loop_statements}
+use Rattle.sj_accept.specs.SmallPrograms.{empty, blink, looping}
+use Rattle.sj_accept.proofs.SmallSources.{empty_source, blink_source, loop_source}
+use Rattle.sj_accept.proofs.SmallPrograms.{blinks, loops, loop_body, empty_is_source, blink_is_source, loop_is_source, empty_statements, blink_statements, loop_statements}
+
+-- a program whose domains have these statements, as the rules take it
+abbrev pub setup_with : Program → List Stmt → Setup
+setup_with p ps = record { tables = tables_for (port_interface p.ports) ps; statements = ps; inputs = no_inputs }
 
 -- digits
 
