@@ -29,7 +29,7 @@ use Rattle.sj_accept.proofs.SmallSources.{empty_source, blink_source, loop_sourc
 use Rattle.sj_accept.proofs.SmallPrograms.{blinks, loops, loop_body, empty_is_source, blink_is_source, loop_is_source, empty_statements, blink_statements, loop_statements}
 
 -- a program whose domains have these statements, as the rules take it
-abbrev pub setup_with : Program → List Stmt → Setup
+abbrev pub setup_with : LoweredProgram → List Stmt → Setup
 setup_with p ps = record { tables = tables_for (port_interface p.ports) ps; statements = ps; inputs = no_inputs }
 
 -- digits
