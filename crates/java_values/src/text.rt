@@ -1,14 +1,13 @@
 ghost use Rattle.std.specs.Prelude.{◌≡◌, IfOk};
 
 use crate::no_memory::NoMemory;
-use smallvec::SmallVec;
 use std::alloc::Global;
 use std::marker::Model;
 
 /// A list of bytes, such as a name.
 #[derive(Debug, Drop)]
 pub struct Text {
-    bytes: SmallVec<u8, 16>,
+    bytes: Vec<u8>,
 }
 
 impl Model for Text {
@@ -24,7 +23,7 @@ impl Text {
     pub fn new(alloc: Global, bytes: &[u8]) -> Result<Text, NoMemory>
         ensures { IfOk result (λ t. t ≡ bytes.now) }
     {
-        let bytes = SmallVec::from_slice(alloc, bytes)?;
+        let bytes = Vec::from_slice(alloc, bytes)?;
         Ok(Text { bytes })
     }
 
@@ -32,6 +31,6 @@ impl Text {
     pub fn bytes(&self) -> &[u8]
         ensures { result.now ≡ self.now }
     {
-        self.bytes.as_slice()
+        &self.bytes
     }
 }
