@@ -1,0 +1,11 @@
+pub mod definitions
+pub mod FoundNames
+pub mod VisibleNames
+pub mod ToldNames
+pub mod ReadNames
+pub mod FirstDomains
+pub mod DomainNames
+pub mod UsedHere
+pub mod EndsHere
+pub mod Places
+pub mod NameRows

@@ -1,0 +1,49 @@
+-- A small interface, and names and their first failure.
+use Rattle.std.specs.Prelude.{ℕ, List, Option, Some, None}
+use Rattle.java_values.specs.declared.kind.Kind.TheVariants.{Int}
+use Rattle.sj_ast.specs.declared.name.Name.{Name}
+use Rattle.sj_ast.specs.declared.expression.Raw as raw
+use Rattle.sj_ast.specs.declared.port.Direction.{Direction}
+use Rattle.sj_ast.specs.declared.port.Port as port
+use Rattle.sj_ast.specs.declared.port.Port.TheVariants as port_is
+use Rattle.sj_ast.specs.declared.statement.Stmt as stmt
+use Rattle.sj_ast.specs.declared.statement.Block as block
+use Rattle.sj_names.specs.declared.mention.Sort.{Sort}
+use Rattle.sj_names.specs.declared.mention.Role.{Role}
+use Rattle.sj_names.specs.declared.mention.Mention.{Mention}
+use Rattle.sj_names.specs.declared.failure.Failure.{Failure}
+use Rattle.sj_names.specs.definitions.Mentions.{TreeNames, names_of_tree}
+use Rattle.sj_names.specs.definitions.Failures.{least_of, failures_of}
+
+abbrev pub Statement : Type 0
+Statement = stmt.Stmt Name (raw.Raw Name)
+
+abbrev pub Braces : Type 0
+Braces = block.Block Name (raw.Raw Name)
+
+abbrev pub name_at : List ℕ → ℕ → Name
+name_at text at = record { text = text; at = at }
+
+abbrev pub port_at : Direction → List ℕ → ℕ → port.Port Name
+port_at d text at = port_is.Signal (record { direction = d; signal = record { at = at; name = name_at text at; valued = None } })
+
+abbrev pub channel_at : List ℕ → ℕ → port.Port Name
+channel_at text at = port_is.Channel (record { kind = Int; at = at; name = name_at text at })
+
+-- the names of a tree
+abbrev pub names_in : List (port.Port Name) → List Braces → TreeNames
+names_in ports domains = names_of_tree (record { ports = ports; domains = domains })
+
+abbrev pub names : List Mention → List (List Mention) → TreeNames
+names ports domains = record { ports = ports; domains = domains }
+
+-- a name at a place, in a role, that stands for nothing, or for a name of this sort and number
+abbrev pub unknown : ℕ → Role → Mention
+unknown at r = record { at = at; role = r; meaning = None }
+
+abbrev pub known : ℕ → Role → Sort → ℕ → Mention
+known at r s n = record { at = at; role = r; meaning = Some (record { sort = s; number = n }) }
+
+-- the first failure of names, in domains whose `{` stand at these places
+abbrev pub first_of : List Mention → List (List Mention) → List ℕ → Option Failure
+first_of ports domains places = least_of None (failures_of (names ports domains) places)

@@ -1,0 +1,7 @@
+-- The names that were read of a tree.
+use Rattle.std.specs.Prelude.{map}
+use Rattle.sj_names.specs.declared.program.TreeNames as read
+use Rattle.sj_names.specs.definitions.Mentions.{TreeNames}
+
+abbrev pub tree_names_of : read.TreeNames → TreeNames
+tree_names_of names = record { ports = names.ports.items; domains = map (λ mentions. mentions.items) names.domains.items }

@@ -1,0 +1,124 @@
+ghost use Rattle.std.specs.Prelude.{◌≡◌, ◌-◌, IfOk, length};
+ghost use Rattle.sj_names.specs.definitions.Scopes.{count_of, counted, no_names, meaning_in, declare, closed_at};
+ghost use Rattle.sj_names.specs.FoundNames.{AreFound, named};
+
+use crate::mention::{Counts, Meaning, Sort};
+use java_values::NoMemory;
+use std::alloc::Global;
+use std::collections::BTreeMap;
+
+impl Counts {
+    /// The number of the next name of this sort.
+    pub fn next(&self, sort: Sort) -> u32
+        ensures { result ≡ count_of sort self.now }
+    {
+        match sort {
+            Sort::Input | Sort::Output | Sort::Local => self.signals,
+            Sort::Channel => self.channels,
+            Sort::Variable => self.variables,
+            Sort::Trap => self.traps,
+        }
+    }
+
+    /// One more of this sort.
+    fn count(&mut self, sort: Sort) -> Result<(), NoMemory>
+        ensures { IfOk result (λ _. self.new ≡ counted sort self.old) }
+    {
+        match sort {
+            Sort::Input | Sort::Output | Sort::Local => {
+                self.signals = self.signals.checked_add(1).ok_or(NoMemory)?;
+            }
+            Sort::Channel => self.channels = self.channels.checked_add(1).ok_or(NoMemory)?,
+            Sort::Variable => self.variables = self.variables.checked_add(1).ok_or(NoMemory)?,
+            Sort::Trap => self.traps = self.traps.checked_add(1).ok_or(NoMemory)?,
+        }
+        Ok(())
+    }
+}
+
+/// A name that is visible.
+#[derive(Clone, Copy)]
+pub struct Visible<'a> {
+    pub name: &'a [u8],
+    pub meaning: Meaning,
+}
+
+/// The visible names, in order of declaration, and how many were declared.
+#[derive(Drop)]
+pub struct Names<'a> {
+    visible: Vec<Visible<'a>>,
+    meanings: BTreeMap<&'a [u8], Meaning>,
+    counts: Counts,
+    ghost found: { AreFound (named visible.items) meanings },
+}
+
+impl<'a> Names<'a> {
+    ghost use Rattle.sj_names.specs.VisibleNames.{scope_of};
+
+    pub fn new(alloc: Global) -> Names<'a>
+        ensures { scope_of result ≡ no_names }
+    {
+        Names {
+            visible: Vec::new(alloc),
+            meanings: BTreeMap::new(alloc),
+            counts: Counts {
+                signals: 0,
+                channels: 0,
+                variables: 0,
+                traps: 0,
+            },
+        }
+    }
+
+    /// How many names are visible.
+    pub fn len(&self) -> usize
+        ensures { result ≡ length (scope_of self.now).visible }
+    {
+        self.visible.len()
+    }
+
+    /// What the name stands for.
+    pub fn meaning(&self, name: &[u8]) -> Option<Meaning>
+        ensures { result ≡ meaning_in (scope_of self.now).visible name.now }
+    {
+        self.meanings.get(name).copied()
+    }
+
+    /// Declares the name, where it isn't visible.
+    pub fn declare(&mut self, sort: Sort, name: &'a [u8]) -> Result<(), NoMemory>
+        ensures { IfOk result (λ _. scope_of self.new ≡ declare sort name.now (scope_of self.old)) }
+    {
+        if self.meaning(name).is_some() {
+            return Ok(());
+        }
+        let meaning = Meaning {
+            sort,
+            number: self.counts.next(sort),
+        };
+        self.counts.count(sort)?;
+        self.visible.push(Visible { name, meaning })?;
+        if self.meanings.insert(name, meaning).is_err() {
+            self.visible.pop();
+            return Err(NoMemory);
+        }
+        Ok(())
+    }
+
+    /// Ends the scope of the name that was declared last.
+    fn forget(&mut self)
+        ensures { scope_of self.new ≡ closed_at (length (scope_of self.old).visible - 1) (scope_of self.old) }
+    {
+        if let Some(last) = self.visible.pop() {
+            self.meanings.remove(last.name);
+        }
+    }
+
+    /// Ends the scope of all names but the first ones.
+    pub fn close(&mut self, first: usize)
+        ensures { scope_of self.new ≡ closed_at first (scope_of self.old) }
+    {
+        while self.visible.len() > first {
+            self.forget();
+        }
+    }
+}
