@@ -4,3 +4,4 @@ pub mod LeastLemmas
 pub mod UseLemmas
 pub mod OwnedLemmas
 pub mod OrderLemmas
+pub mod DeclaredLemmas

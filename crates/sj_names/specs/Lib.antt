@@ -9,3 +9,4 @@ pub mod UsedHere
 pub mod EndsHere
 pub mod Places
 pub mod NameRows
+pub mod DeclaredNames

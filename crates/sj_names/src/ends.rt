@@ -1,4 +1,4 @@
-ghost use Rattle.std.specs.Prelude.{◌≡◌, ◌++◌, ◌∷◌, ℕ, [], IfOk, take};
+ghost use Rattle.std.specs.Prelude.{◌≡◌, ◌++◌, ◌∷◌, ◌^◌, ◌≤◌, ℕ, [], IfOk, IsErr, take};
 ghost use Rattle.sj_names.specs.declared.mention.Use.TheVariants.{SendingEnd, ReceivingEnd};
 ghost use Rattle.sj_names.specs.definitions.Failures.{least_of, number_in, end_failure, both_end_failures, domain_end_failures, end_failures, unjoined_failures};
 ghost use Rattle.sj_names.specs.DomainNames.{names_in};
@@ -14,7 +14,8 @@ use std::alloc::Global;
 
 /// The number as one of names.
 pub fn number_of(index: usize) -> Result<u32, NoMemory>
-    ensures { IfOk result (λ number. number ≡ index) }
+    ensures value { IfOk result (λ number. number ≡ index) }
+    ensures full { IsErr result → 2 ^ 32 ≤ index }
 {
     u32::try_from(index).map_err(|_| NoMemory)
 }

@@ -10,11 +10,8 @@ use crate::limits::places_of;
 use crate::mention::Group;
 use crate::program::TreeNames;
 use java_values::NoMemory;
+use kernel_terms::{MOST_CHANNELS, MOST_DOMAINS};
 use std::alloc::Global;
-
-const MOST_DOMAINS: usize = 16;
-
-const MOST_CHANNELS: usize = 64;
 
 impl Least {
     fn add_domain_names(&mut self, domains: &Domains<'_>)
@@ -29,10 +26,10 @@ impl Least {
 impl TreeNames {
     ghost use Rattle.sj_names.specs.ReadNames.{tree_names_of};
 
-    /// The first failure of the names, by place and then by kind, where there is one. The domains stand at these places.
-    pub fn first_failure(&self, alloc: Global, places: &[u32]) -> Result<Option<Failure>, NoMemory>
-        ensures value { IfOk result (λ o. o ≡ least_of None (failures_of (tree_names_of self.now) places.now)) }
-        ensures least { IfOk result (λ o. MatchOption o (failures_of (tree_names_of self.now) places.now ≡ []) (λ f. IsLeast (failures_of (tree_names_of self.now) places.now) f)) }
+    /// The first failure of the names, by place and then by kind, where there is one.
+    pub fn first_failure(&self, alloc: Global) -> Result<Option<Failure>, NoMemory>
+        ensures value { IfOk result (λ o. o ≡ least_of None (failures_of (tree_names_of self.now))) }
+        ensures least { IfOk result (λ o. MatchOption o (failures_of (tree_names_of self.now) ≡ []) (λ f. IsLeast (failures_of (tree_names_of self.now)) f)) }
     {
         let domains = Domains::new(alloc, &self.domains)?;
         let signals = places_of(alloc, Group::PortSignal, &self.ports)?;
@@ -43,7 +40,7 @@ impl TreeNames {
         least.add_shared(&domains);
         least.add_second_ends(alloc, &domains)?;
         least.add_unjoined(&domains, &channels)?;
-        least.add_too_many(MOST_DOMAINS, places);
+        least.add_too_many(MOST_DOMAINS, &self.places);
         least.add_too_many(MOST_CHANNELS, &channels);
         least.add_limits(alloc, &domains, &signals)?;
         Ok(least.found)

@@ -1,6 +1,8 @@
 //! Names and their scopes: what each name of a source's tree stands for.
 #![tactic(auto)]
 
+mod binding;
+mod declared;
 mod domains;
 mod ends;
 mod expressions;
@@ -10,17 +12,21 @@ mod least;
 mod limits;
 mod mention;
 mod names;
+mod numbering;
 mod owners;
 mod program;
 mod rows;
 mod sharing;
 mod statements;
+mod tables;
 mod uses;
 
+pub use binding::{BindError, Bound, bind};
 pub use failure::{Failure, Fault};
 pub use mention::{Counts, Group, Meaning, Mention, Role, Sort, Use};
+pub use numbering::numbered_tree;
 pub use program::TreeNames;
-pub use rows::{small_interfaces, small_name_failures};
+pub use rows::{small_interfaces, small_limits, small_name_failures, small_tables};
 
 #[cfg(test)]
 mod tests;

@@ -7,9 +7,8 @@ use crate::failure::Fault;
 use crate::least::Least;
 use crate::mention::{Group, Mention, Role};
 use java_values::NoMemory;
+use kernel_terms::MOST_SIGNALS;
 use std::alloc::Global;
-
-const MOST_SIGNALS: usize = 1024;
 
 const MOST_VARIABLES: usize = 1024;
 

@@ -1,8 +1,9 @@
-ghost use Rattle.std.specs.Prelude.{◌≡◌, ◌-◌, IfOk, length};
+ghost use Rattle.std.specs.Prelude.{◌≡◌, ◌+◌, ◌-◌, ◌^◌, ◌≤◌, IfOk, IsErr, length};
 ghost use Rattle.sj_names.specs.definitions.Scopes.{count_of, counted, no_names, meaning_in, declare, closed_at};
+ghost use Rattle.sj_names.specs.definitions.NumberedTrees.{number_where};
 ghost use Rattle.sj_names.specs.FoundNames.{AreFound, named};
 
-use crate::mention::{Counts, Meaning, Sort};
+use crate::mention::{Counts, Meaning, Role, Sort};
 use java_values::NoMemory;
 use std::alloc::Global;
 use std::collections::BTreeMap;
@@ -22,7 +23,8 @@ impl Counts {
 
     /// One more of this sort.
     fn count(&mut self, sort: Sort) -> Result<(), NoMemory>
-        ensures { IfOk result (λ _. self.new ≡ counted sort self.old) }
+        ensures value { IfOk result (λ _. self.new ≡ counted sort self.old) }
+        ensures full { IsErr result → 2 ^ 32 ≤ count_of sort self.old + 1 }
     {
         match sort {
             Sort::Input | Sort::Output | Sort::Local => {
@@ -82,6 +84,19 @@ impl<'a> Names<'a> {
         ensures { result ≡ meaning_in (scope_of self.now).visible name.now }
     {
         self.meanings.get(name).copied()
+    }
+
+    /// The number of what the name stands for, or of what it declares.
+    pub fn number(&self, role: Role, name: &[u8]) -> u32
+        ensures { result ≡ number_where role (meaning_in (scope_of self.now).visible name.now) (scope_of self.now).counts }
+    {
+        match self.meaning(name) {
+            Some(meaning) => meaning.number,
+            None => match role {
+                Role::Declare(sort) => self.counts.next(sort),
+                _ => 0,
+            },
+        }
     }
 
     /// Declares the name, where it isn't visible.

@@ -1,6 +1,6 @@
-ghost use Rattle.std.specs.Prelude.{◌≡◌, IfOk};
+ghost use Rattle.std.specs.Prelude.{◌≡◌, ◌++◌, IfOk, drop, map};
 ghost use Rattle.sj_names.specs.VisibleNames.{scope_of};
-ghost use Rattle.sj_names.specs.definitions.Mentions.{Told, block_part, names_of_tree, interface_names, domain_mentions};
+ghost use Rattle.sj_names.specs.definitions.Mentions.{Told, block_part, block_place, names_of_tree, interface_names, domain_mentions};
 
 use crate::mention::Mention;
 use crate::names::Names;
@@ -9,11 +9,22 @@ use java_values::NoMemory;
 use sj_ast::{Block, Name, Raw, Tree};
 use std::alloc::Global;
 
-/// The names of a tree in source order: those of the interface, and those of each domain.
+/// The names of a tree in source order: those of the interface, and those of each domain, with the place of its `{`.
 #[derive(Drop)]
 pub struct TreeNames {
     pub ports: Vec<Mention>,
     pub domains: Vec<Vec<Mention>>,
+    pub places: Vec<u32>,
+}
+
+fn block_places(alloc: Global, blocks: &[Block<Name, Raw<Name>>]) -> Result<Vec<u32>, NoMemory>
+    ensures { IfOk result (λ places. places.items ≡ map block_place blocks.now) }
+{
+    let mut places = Vec::new(alloc);
+    for block in blocks {
+        places.push(block.at)?;
+    }
+    Ok(places)
 }
 
 /// The names of a part of a tree, and those that are visible behind it.
@@ -72,9 +83,11 @@ impl TreeNames {
             visible = part.visible;
             domains.push(part.mentions)?;
         }
+        let places = block_places(alloc, tree.domains.as_slice())?;
         Ok(TreeNames {
             ports: interface.mentions,
             domains,
+            places,
         })
     }
 }

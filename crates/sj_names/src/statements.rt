@@ -14,7 +14,7 @@ pub struct Reader<'a> {
     pub mentions: Vec<Mention>,
 }
 
-fn signal_sort(direction: Direction) -> Sort
+pub fn signal_sort(direction: Direction) -> Sort
     ensures { result ≡ signal_sort direction }
 {
     match direction {

@@ -197,15 +197,15 @@ abbrev pub domain_limit_failures : (domains : List (List Mention)) → List ℕ 
 domain_limit_failures domains places d [] = []
 domain_limit_failures domains places d (ms ∷ rest) = limit_failures (owned_places domains d 0 places) ms ++ domain_limit_failures domains places (suc d) rest
 
--- all failures of the names of a tree, whose domains stand at these places
-abbrev pub failures_of : TreeNames → List ℕ → List Failure
-failures_of names places =
+-- all failures of the names of a tree
+abbrev pub failures_of : TreeNames → List Failure
+failures_of names =
     flat_map own_failures names.ports
     ++ (flat_map (flat_map own_failures) names.domains
     ++ (shared_failures [] names.domains
     ++ (end_failures [] names.domains
     ++ (unjoined_failures names.domains 0 (places_of is_channel names.ports)
-    ++ (too_many most_domains places
+    ++ (too_many most_domains names.places
     ++ (too_many most_channels (places_of is_channel names.ports)
     ++ domain_limit_failures names.domains (places_of is_port_signal names.ports) 0 names.domains))))))
 

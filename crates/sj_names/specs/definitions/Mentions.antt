@@ -1,5 +1,5 @@
 -- The names of a tree in source order, and what each stands for.
-use Rattle.std.specs.Prelude.{List, [], ◌∷◌, ◌++◌, length, map, Option, Some, None}
+use Rattle.std.specs.Prelude.{ℕ, List, [], ◌∷◌, ◌++◌, length, map, Option, Some, None}
 use Rattle.sj_ast.specs.declared.name.Name.{Name}
 use Rattle.sj_ast.specs.declared.expression.Raw.{Raw}
 use Rattle.sj_ast.specs.declared.expression.Raw.TheOpen.{Raw-F}
@@ -10,6 +10,7 @@ use Rattle.sj_ast.specs.declared.test.Test.TheFolds.{fold-Test}
 use Rattle.sj_ast.specs.declared.statement.Form.TheOpen.{Form-F, Block-F, Stmt-F}
 use Rattle.sj_ast.specs.declared.statement.Form.TheFolds.{fold-Block, fold-Stmt}
 use Rattle.sj_ast.specs.declared.statement.Block.{Block}
+use Rattle.sj_ast.specs.declared.statement.Block as block
 use Rattle.sj_ast.specs.declared.statement.Stmt.{Stmt}
 use Rattle.sj_ast.specs.declared.statement.Tree.{Tree}
 use Rattle.sj_ast.specs.declared.port.Direction.{Direction}
@@ -164,10 +165,14 @@ abbrev pub domain_mentions : Scope → List (Block Name (Raw Name)) → List (Li
 domain_mentions scope [] = []
 domain_mentions scope (b ∷ bs) = (block_part b scope).mentions ∷ domain_mentions (block_part b scope).scope bs
 
--- the names of the interface, and those of each domain
+-- the names of the interface and those of each domain, and where the `{` of each domain stands
 pub record TreeNames : Type 0 where
   pub ports : List Mention
   pub domains : List (List Mention)
+  pub places : List ℕ
+
+abbrev pub block_place : Block Name (Raw Name) → ℕ
+block_place b = (block.out-Block Name (Raw Name) b).at
 
 abbrev pub interface_names : Tree Name (Raw Name) → Told
 interface_names tree = in_order (map port_part tree.ports) no_names
@@ -176,4 +181,5 @@ abbrev pub names_of_tree : Tree Name (Raw Name) → TreeNames
 names_of_tree tree = record {
   ports = (interface_names tree).mentions;
   domains = domain_mentions (interface_names tree).scope tree.domains;
+  places = map block_place tree.domains;
 }
