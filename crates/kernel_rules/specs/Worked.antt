@@ -1,6 +1,7 @@
 pub mod Words
 pub mod Variables
 pub mod Codes
+pub mod Exits
 pub mod Aborts
 pub mod Locals
 pub mod Domains

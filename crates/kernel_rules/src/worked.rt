@@ -4,6 +4,7 @@ mod aborts;
 mod codes;
 mod domains;
 mod ends;
+mod exits;
 mod locals;
 mod readings;
 mod registers;
@@ -12,7 +13,8 @@ mod ways;
 
 pub use aborts::{
     abort_ends_waiting_send, abort_ends_with_its_body, abort_is_armed_after_its_start,
-    aborted_body_assigns, immediate_abort_is_armed_at_once, suspend_is_armed_after_its_start,
+    aborted_body_assigns, immediate_abort_is_armed_at_once, new_start_is_not_armed,
+    new_start_of_immediate_abort_is_armed, suspend_is_armed_after_its_start,
 };
 pub use codes::{
     code_above_exits_stays, exit_ends_pausing_branch, exit_passes_through,
@@ -25,6 +27,11 @@ pub use domains::{
     output_is_present_where_emitted, some_domains_make_no_tick,
 };
 pub use ends::{completed_ends_go_on, send_and_receive_wait, send_computes_at_once};
+pub use exits::{
+    choice_exits_with_its_branch, every_exit_ends_parallel, every_exit_passes_as_it_is,
+    exit_keeps_emissions_and_variables, later_code_above_exits_passes_through,
+    later_exit_keeps_emissions_and_variables,
+};
 pub use locals::{
     exit_leaves_local, local_coherence_decides, local_combines_emissions, local_hands_on_variables,
     local_is_present_where_emitted, local_keeps_its_last_value, locals_are_apart,
@@ -38,12 +45,13 @@ pub use readings::{
 pub use registers::{
     each_form_has_registers_of_parts, registers_fit, registers_hold_values, registers_refused,
     registers_stand_for_statement, registers_stand_in_order, second_part_has_later_registers,
+    valued_input_has_register,
 };
 pub use variables::{
     body_hands_on_variables, branches_read_old_variables, each_form_mentions_what_it_names,
     endless_turn_has_no_tick, if_takes_one_branch, loop_begins_anew, operands_are_read,
-    parallel_joins_variables, present_takes_one_branch, sequence_hands_on_variables,
-    sequence_waits_for_its_first_part, statement_assigns_what_it_names,
-    statement_mentions_what_it_names,
+    parallel_joins_variables, pausing_body_hands_on_variables, present_takes_one_branch,
+    sequence_hands_on_variables, sequence_waits_for_its_first_part,
+    statement_assigns_what_it_names, statement_mentions_what_it_names,
 };
 pub use ways::{loops_of_each_form_wait, shape_tells_ends, shape_tells_exits};

@@ -1,7 +1,7 @@
 -- Aborts and suspends, which look at the signal 0, and sends and receives in them.
 use Rattle.std.specs.Prelude.{Bool, true, false, List, [], ◌∷◌}
 use Rattle.kernel_terms.specs.Expressions.{IsPresent}
-use Rattle.kernel_terms.specs.Statements.{Stmt, Pause, Assign, Seq, Abort, Suspend}
+use Rattle.kernel_terms.specs.Statements.{Stmt, Pause, Assign, Seq, Loop, Abort, Suspend}
 use Rattle.kernel_rules.specs.Rows.{int}
 use Rattle.kernel_rules.specs.definitions.Signals.{Emission}
 use Rattle.kernel_rules.specs.ShownTicks.{Shown, statuses, present, pauses_in, ends_in}
@@ -33,3 +33,23 @@ suspended_assignment = Suspend false (IsPresent 0) (Seq Pause (Seq (Assign 0 (pl
 -- abort(A){send C(5); emit X;}, of which the send waits, and of which it has completed
 abbrev pub aborted_send : (weak : Bool) → Stmt → Stmt
 aborted_send weak p = Abort weak true (IsPresent 0) (Seq p (emit 1))
+
+-- emit X; pause;
+abbrev pub one_turn : Stmt
+one_turn = Seq (emit 1) Pause
+
+-- suspend(A){emit X; pause;}
+abbrev pub suspended_turn : Stmt
+suspended_turn = Suspend false (IsPresent 0) one_turn
+
+-- abort(A){emit X; pause;}
+abbrev pub aborted_turn : (weak immediate : Bool) → Stmt
+aborted_turn weak immediate = Abort weak immediate (IsPresent 0) one_turn
+
+-- pause; p
+abbrev pub begun_later : Stmt → Stmt
+begun_later p = Seq Pause p
+
+-- while(true){p pause;}
+abbrev pub begun_again : Stmt → Stmt
+begun_again p = Loop (Seq p Pause)

@@ -8,7 +8,7 @@ use Rattle.kernel_terms.specs.declared.tables.Sort.TheVariants as sort
 use Rattle.kernel_terms.specs.declared.tables.Combine.TheVariants as combine
 use Rattle.kernel_terms.specs.Expressions.{Literal, Variable, IsPresent}
 use Rattle.kernel_terms.specs.Statements.{Stmt, Nothing, Pause, If, Present, Seq, Loop, Par, Trap, Abort, Suspend, Local, Send, Receive}
-use Rattle.kernel_rules.specs.Rows.{pure_input, pure_local, summed}
+use Rattle.kernel_rules.specs.Rows.{pure_input, pure_local, summed, signals_alone}
 use Rattle.kernel_rules.specs.Worked.Words.{variable, emit_value}
 use Rattle.kernel_rules.specs.Worked.Variables.{truth}
 
@@ -32,6 +32,13 @@ domain_tables = record {
       ∷ record { name = codes "D"; kind = kind.Char; sender = 1; receiver = 0 } ∷ [];
   variables = record { domain = 0; kind = kind.Int } ∷ record { domain = 1; kind = kind.Int } ∷ record { domain = 0; kind = kind.Boolean } ∷ [];
 }
+
+abbrev pub byte_input : List ℕ → SignalInfo
+byte_input name = record { name = name; domain = 0; sort = sort.Input; kind = Some kind.Byte; combine = combine.Add }
+
+-- Signals: local long S, input byte I, input A, output int O.
+abbrev pub input_tables : Tables
+input_tables = signals_alone (long_local (codes "S") ∷ byte_input (codes "I") ∷ pure_input (codes "A") ∷ summed (codes "O") ∷ [])
 
 -- emit S(9);
 abbrev pub emits_local : Stmt

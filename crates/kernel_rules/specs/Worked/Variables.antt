@@ -2,7 +2,7 @@
 use Rattle.std.specs.Prelude.{ℕ, pos, Bool, true, false, cond, List, [], ◌∷◌, Some, None}
 use Rattle.java_values.specs.declared.kind.Kind.TheVariants as kind
 use Rattle.java_values.specs.declared.op.Op1.TheVariants as op1
-use Rattle.kernel_terms.specs.Expressions.{Expression, Literal, ChannelValue, Unary, Cast, Test, IsPresent, Not, Both, Either}
+use Rattle.kernel_terms.specs.Expressions.{Expression, Literal, Variable, ChannelValue, Unary, Cast, Test, IsPresent, Not, Both, Either}
 use Rattle.kernel_terms.specs.Statements.{Stmt, Nothing, Pause, Emit, Assign, If, Present, Seq, Loop, Par, Trap, Exit, Abort, Suspend, Local, Send, Receive, SendWaits, Sent, ReceiveWaits, Received}
 use Rattle.kernel_rules.specs.Rows.{int}
 use Rattle.kernel_rules.specs.Worked.Words.{variable, signal_value, plus, emit, emit_value, assign}
@@ -31,6 +31,22 @@ branched b = If (truth b) (Seq (emit 0) (Seq Pause (emit 0))) (emit 1)
 -- present(S){emit A; pause; emit A;}else{emit B;}, with the signal 2 for S
 abbrev pub asked : Stmt
 asked = Present (IsPresent 2) (Seq (emit 0) (Seq Pause (emit 0))) (emit 1)
+
+-- if(x){p}else{q}, with x of kind `boolean`
+abbrev pub asked_of_variable : Stmt → Stmt → Stmt
+asked_of_variable p q = If (Variable kind.Boolean 0) p q
+
+-- x = true; if(x){x = false; pause; emit A;}else{emit B;}
+abbrev pub made_false : Stmt
+made_false = Seq (Assign 0 (truth true)) (asked_of_variable (Seq (Assign 0 (truth false)) (Seq Pause (emit 0))) (emit 1))
+
+-- if(x){emit A;}else{x = true; pause; emit B;}
+abbrev pub made_true : Stmt
+made_true = asked_of_variable (emit 0) (Seq (Assign 0 (truth true)) (Seq Pause (emit 1)))
+
+-- present(S){emit B;}else{emit A; pause; emit A;}, with the signal 2 for S
+abbrev pub asked_for_absence : Stmt
+asked_for_absence = Present (IsPresent 2) (emit 1) (Seq (emit 0) (Seq Pause (emit 0)))
 
 -- while(true){x = x + 1; emit A(x); pause; emit B(x);}
 abbrev pub counted : Stmt
@@ -92,10 +108,14 @@ tested =
 abbrev pub waits : Stmt
 waits = Seq (SendWaits 0 (pos 5)) (Seq (Sent 1) (Seq (ReceiveWaits 2) (Seq (Received 3) (Receive 3))))
 
--- trap(T){ {x = 1; exit(T);} || {y = 2; pause;} } emit A(x); emit B(y);
-abbrev pub exits_and_assigns : Stmt
-exits_and_assigns =
-    Seq (Trap (Par (Seq (assign 0 1) (Exit 0)) (Seq (assign 1 2) Pause))) (Seq (emit_value 0 (variable 0)) (emit_value 1 (variable 1)))
+-- trap(T){ {x = 1; p} || {y = 2; q} } emit A(x); emit B(y);
+abbrev pub assigns_beside : Stmt → Stmt → Stmt
+assigns_beside p q =
+    Seq (Trap (Par (Seq (assign 0 1) p) (Seq (assign 1 2) q))) (Seq (emit_value 0 (variable 0)) (emit_value 1 (variable 1)))
+
+-- trap(T){ {x = 1; p} || {x = 2; q} } emit B(x);
+abbrev pub both_assign : Stmt → Stmt → Stmt
+both_assign p q = then_shown (Trap (Par (Seq (assign 0 1) p) (Seq (assign 0 2) q)))
 
 -- an expression, and the forms that have it as one of their operands
 abbrev pub expressions_around : Expression → List Expression

@@ -14,7 +14,7 @@ ghost use Rattle.kernel_rules.specs.Worked.Ways.{endless};
 ghost use Rattle.kernel_rules.specs.definitions.Registers.{FitRegisters};
 ghost use Rattle.kernel_rules.specs.definitions.Registers.{variables_held, values_held, last_held};
 ghost use Rattle.kernel_rules.specs.Worked.SmallDomain.{domain_tables, small_domain, pure_domain};
-ghost use Rattle.kernel_rules.specs.Worked.SmallDomain.{emits_local, receives, held};
+ghost use Rattle.kernel_rules.specs.Worked.SmallDomain.{emits_local, receives, held, input_tables};
 ghost use Rattle.kernel_rules.specs.Worked.SmallDomain.{endless_branch, endless_branch_later};
 ghost use Rattle.kernel_rules.specs.Worked.SmallDomain.{forms_left, both_on, first_on};
 ghost use Rattle.kernel_rules.specs.Worked.Variables.{forms_around, pauses_twice};
@@ -134,4 +134,15 @@ pub fn second_part_has_later_registers()
     ensures refused { All (λ p. FitRegisters domain_tables p 0 (held (0 ∷ 1 ∷ 1 ∷ [])) → ⊥) (two_parts Pause pauses_twice) }
     ensures in_local { FitRegisters domain_tables local_pauses 0 (held (1 ∷ 1 ∷ 0 ∷ [])) }
     ensures refused_in_local { FitRegisters domain_tables local_pauses 0 (held (0 ∷ 1 ∷ 1 ∷ [])) → ⊥ }
+{}
+
+/// A valued input has a register, as a valued output has, and it holds the input's value. A pure input and
+/// a local signal have none.
+pub fn valued_input_has_register()
+    ensures kinds { domain_registers input_tables 0 Pause ≡ kind.Boolean ∷ kind.Byte ∷ kind.Int ∷ [] }
+    ensures local { values_held input_tables 0 Pause (held (1 ∷ 7 ∷ 8 ∷ 9 ∷ [])) 0 ≡ pos 0 }
+    ensures input { values_held input_tables 0 Pause (held (1 ∷ 7 ∷ 8 ∷ 9 ∷ [])) 1 ≡ pos 7 }
+    ensures pure { values_held input_tables 0 Pause (held (1 ∷ 7 ∷ 8 ∷ 9 ∷ [])) 2 ≡ pos 0 }
+    ensures output { values_held input_tables 0 Pause (held (1 ∷ 7 ∷ 8 ∷ 9 ∷ [])) 3 ≡ pos 8 }
+    ensures of_another { domain_registers input_tables 1 Pause ≡ kind.Boolean ∷ [] }
 {}

@@ -14,7 +14,8 @@ ghost use Rattle.kernel_rules.specs.Worked.Words.{no_tables, variable, signal_va
 ghost use Rattle.kernel_rules.specs.Rows.{int};
 ghost use Rattle.kernel_rules.specs.Worked.Variables.{assigned_twice, summed_up, two_pauses};
 ghost use Rattle.kernel_rules.specs.Worked.Variables.{branched, truth, asked, counted, then_shown};
-ghost use Rattle.kernel_rules.specs.Worked.Variables.{exits_and_assigns};
+ghost use Rattle.kernel_rules.specs.Worked.Variables.{made_false, made_true, asked_for_absence};
+ghost use Rattle.kernel_rules.specs.Worked.Variables.{assigns_beside, both_assign};
 ghost use Rattle.kernel_rules.specs.Worked.Variables.{beside_then_shown, assigns_and_pauses};
 ghost use Rattle.kernel_rules.specs.Worked.Variables.{pauses_twice, may_assign};
 ghost use Rattle.kernel_rules.specs.Worked.Variables.{forms_around, forms_alone};
@@ -40,11 +41,19 @@ pub fn sequence_waits_for_its_first_part()
         (pauses (emitted 0 0 ∷ []) ∷ pauses (emitted 1 0 ∷ []) ∷ ends [] ∷ ends [] ∷ []) }
 {}
 
-/// An `if` takes its first branch where its condition is true, and else the second, and stays in it.
+/// An `if` takes its first branch where its condition is true, and else the second, and stays in it, also
+/// where the branch changes what the condition reads.
 pub fn if_takes_one_branch()
     ensures first { Shows no_tables (branched true)
         (pauses (emitted 0 0 ∷ []) ∷ ends (emitted 0 0 ∷ []) ∷ []) }
     ensures second { Shows no_tables (branched false) (ends (emitted 1 0 ∷ []) ∷ ends [] ∷ []) }
+    ensures first_ends { Shows no_tables (If (truth true) (emit 0) (emit 1)) (ends (emitted 0 0 ∷ []) ∷ ends [] ∷ []) }
+    ensures second_pauses { Shows no_tables (If (truth false) (emit 0) two_pauses)
+        (pauses (emitted 0 0 ∷ []) ∷ pauses (emitted 1 0 ∷ []) ∷ ends [] ∷ []) }
+    ensures first_stays { Shows no_tables made_false
+        (pauses [] ∷ ends (emitted 0 0 ∷ []) ∷ ends [] ∷ []) }
+    ensures second_stays { Shows no_tables made_true
+        (pauses [] ∷ ends (emitted 1 0 ∷ []) ∷ ends [] ∷ []) }
 {}
 
 /// A `present` takes its first branch where its test holds, and else the second, also where the absent
@@ -55,6 +64,9 @@ pub fn present_takes_one_branch()
         ∷ ends (emitted 0 0 ∷ []) ∷ []) }
     ensures second { Shows no_tables asked
         (ends_in (statuses (present ∷ present ∷ absent_with 1 ∷ [])) (emitted 1 0 ∷ []) ∷ ends [] ∷ []) }
+    ensures second_stays { Shows no_tables asked_for_absence
+        (pauses (emitted 0 0 ∷ [])
+        ∷ ends_in (statuses (absent ∷ absent ∷ present ∷ [])) (emitted 0 0 ∷ []) ∷ ends [] ∷ []) }
 {}
 
 /// A trap, a suspend and an abort hand on what their body has assigned, at once and later, and a choice
@@ -87,6 +99,28 @@ pub fn body_hands_on_variables()
         (ends (emitted 1 2 ∷ []) ∷ []) }
 {}
 
+/// The variables that a body or a branch has assigned where it pauses are those of its next tick.
+pub fn pausing_body_hands_on_variables()
+    ensures sequence { Shows no_tables (then_shown (assigns_and_pauses 1))
+        (pauses [] ∷ ends (emitted 1 1 ∷ []) ∷ []) }
+    ensures trap { Shows no_tables (then_shown (Trap (assigns_and_pauses 1)))
+        (pauses [] ∷ ends (emitted 1 1 ∷ []) ∷ []) }
+    ensures suspension { Shows no_tables (then_shown (Suspend false (IsPresent 0) (assigns_and_pauses 1)))
+        (pauses [] ∷ ends (emitted 1 1 ∷ []) ∷ []) }
+    ensures strong { Shows no_tables (then_shown (Abort false false (IsPresent 0) (assigns_and_pauses 1)))
+        (pauses [] ∷ ends (emitted 1 1 ∷ []) ∷ []) }
+    ensures weak { Shows no_tables (then_shown (Abort true false (IsPresent 0) (assigns_and_pauses 1)))
+        (pauses [] ∷ ends (emitted 1 1 ∷ []) ∷ []) }
+    ensures first_choice { Shows no_tables (then_shown (If (truth true) (assigns_and_pauses 1) (assign 0 2)))
+        (pauses [] ∷ ends (emitted 1 1 ∷ []) ∷ []) }
+    ensures second_choice { Shows no_tables (then_shown (If (truth false) (assign 0 2) (assigns_and_pauses 1)))
+        (pauses [] ∷ ends (emitted 1 1 ∷ []) ∷ []) }
+    ensures present { Shows no_tables (then_shown (Present (IsPresent 0) (assigns_and_pauses 1) (assign 0 2)))
+        (pauses_in (statuses (present ∷ [])) [] ∷ ends (emitted 1 1 ∷ []) ∷ []) }
+    ensures absent { Shows no_tables (then_shown (Present (IsPresent 0) (assign 0 2) (assigns_and_pauses 1)))
+        (pauses [] ∷ ends (emitted 1 1 ∷ []) ∷ []) }
+{}
+
 /// A loop begins its body anew in the tick in which the body ends, from the variables that it left.
 pub fn loop_begins_anew()
     ensures { Shows no_tables counted
@@ -109,10 +143,19 @@ pub fn parallel_joins_variables()
         (pauses [] ∷ pauses [] ∷ ends (emitted 1 1 ∷ []) ∷ []) }
     ensures both { Shows no_tables (beside_then_shown (assign 0 1) (assign 0 2))
         (ends (emitted 1 1 ∷ []) ∷ []) }
+    ensures second_ended { Shows no_tables (beside_then_shown Pause (assign 0 1))
+        (pauses [] ∷ ends (emitted 1 1 ∷ []) ∷ []) }
+    ensures second_of_ended { Shows no_tables (beside_then_shown Nothing (assign 0 1)) (ends (emitted 1 1 ∷ []) ∷ []) }
     ensures unassigned { Shows no_tables (beside_then_shown may_assign (assign 0 2))
         (ends (emitted 1 0 ∷ []) ∷ []) }
-    ensures at_exit { Shows no_tables exits_and_assigns
+    ensures at_exit { Shows no_tables (assigns_beside (Exit 0) Pause)
         (ends (emitted 0 1 ∷ emitted 1 2 ∷ []) ∷ ends [] ∷ []) }
+    ensures at_second_exit { Shows no_tables (assigns_beside Pause (Exit 0))
+        (ends (emitted 0 1 ∷ emitted 1 2 ∷ []) ∷ ends [] ∷ []) }
+    ensures at_both_exits { Shows no_tables (assigns_beside (Exit 0) (Exit 0))
+        (ends (emitted 0 1 ∷ emitted 1 2 ∷ []) ∷ ends [] ∷ []) }
+    ensures both_at_exit { Shows no_tables (both_assign (Exit 0) Pause) (ends (emitted 1 1 ∷ []) ∷ []) }
+    ensures both_at_second_exit { Shows no_tables (both_assign Pause (Exit 0)) (ends (emitted 1 1 ∷ []) ∷ []) }
 {}
 
 /// A statement may assign the variables that an assignment in it names, and no others.

@@ -7,3 +7,6 @@ returns-clause-strong c = shows _ _ _ _ _ refl
 
 pub returns-clause-weak : goal.returns-clause-weak
 returns-clause-weak c = shows _ _ _ _ _ refl
+
+pub returns-clause-weak_ending : goal.returns-clause-weak_ending
+returns-clause-weak_ending c = shows _ _ _ _ _ refl

@@ -16,3 +16,21 @@ returns-clause-unassigned c = shows _ _ _ _ _ refl
 
 pub returns-clause-at_exit : goal.returns-clause-at_exit
 returns-clause-at_exit c = shows _ _ _ _ _ refl
+
+pub returns-clause-at_second_exit : goal.returns-clause-at_second_exit
+returns-clause-at_second_exit c = shows _ _ _ _ _ refl
+
+pub returns-clause-at_both_exits : goal.returns-clause-at_both_exits
+returns-clause-at_both_exits c = shows _ _ _ _ _ refl
+
+pub returns-clause-both_at_exit : goal.returns-clause-both_at_exit
+returns-clause-both_at_exit c = shows _ _ _ _ _ refl
+
+pub returns-clause-both_at_second_exit : goal.returns-clause-both_at_second_exit
+returns-clause-both_at_second_exit c = shows _ _ _ _ _ refl
+
+pub returns-clause-second_ended : goal.returns-clause-second_ended
+returns-clause-second_ended c = shows _ _ _ _ _ refl
+
+pub returns-clause-second_of_ended : goal.returns-clause-second_of_ended
+returns-clause-second_of_ended c = shows _ _ _ _ _ refl

@@ -7,3 +7,6 @@ returns-clause-first c = shows _ _ _ _ _ refl
 
 pub returns-clause-second : goal.returns-clause-second
 returns-clause-second c = shows _ _ _ _ _ refl
+
+pub returns-clause-second_stays : goal.returns-clause-second_stays
+returns-clause-second_stays c = shows _ _ _ _ _ refl
