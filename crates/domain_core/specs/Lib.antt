@@ -1,3 +1,4 @@
+pub mod Rows
 pub mod definitions
 pub mod equations
 pub mod runs

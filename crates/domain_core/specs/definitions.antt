@@ -1,4 +1,3 @@
-pub mod Rows
 pub mod rounds
 pub mod runs
 pub mod step

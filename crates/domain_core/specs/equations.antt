@@ -5,6 +5,5 @@ pub mod BuiltRegisters
 pub mod Circuit
 pub mod CircuitLists
 pub mod Codes
-pub mod PartEnds
 pub mod Places
 pub mod SendsFit

@@ -6,14 +6,14 @@ ghost use Rattle.tick_log.specs.definitions.StampOrder.{Event, TickOf, JoinOf, I
 ghost use Rattle.domain_core.specs.definitions.runs.Systems.{SystemState, Steps, start};
 ghost use Rattle.domain_core.specs.definitions.runs.LegalRuns.{IsLegalRun, SpendsBudgets, IsAtRest};
 ghost use Rattle.domain_core.specs.definitions.runs.Scheduled.{IsScheduledRun, IsWholeRun};
-ghost use Rattle.domain_core.specs.definitions.Rows.{rendezvous, rendezvous_run, two_rounds};
-ghost use Rattle.domain_core.specs.definitions.Rows.{rendezvous_with, first_ticks};
-ghost use Rattle.domain_core.specs.definitions.Rows.{join_between, join_last};
-ghost use Rattle.domain_core.specs.definitions.Rows.{one_interleaving, IsByRounds};
-ghost use Rattle.domain_core.specs.definitions.Rows.{aborted_send, withdrawn_run, joined_run};
-ghost use Rattle.domain_core.specs.definitions.Rows.{early_join, receiver_last};
-ghost use Rattle.domain_core.specs.definitions.Rows.{suspended_receive, suspended_run};
-ghost use Rattle.domain_core.specs.definitions.Rows.{suspended_join, too_early, receiver_first};
+ghost use Rattle.domain_core.specs.Rows.{rendezvous, rendezvous_run, two_rounds};
+ghost use Rattle.domain_core.specs.Rows.{rendezvous_with, first_ticks};
+ghost use Rattle.domain_core.specs.Rows.{join_between, join_last};
+ghost use Rattle.domain_core.specs.Rows.{one_interleaving, IsByRounds};
+ghost use Rattle.domain_core.specs.Rows.{aborted_send, withdrawn_run, joined_run};
+ghost use Rattle.domain_core.specs.Rows.{early_join, receiver_last};
+ghost use Rattle.domain_core.specs.Rows.{suspended_receive, suspended_run};
+ghost use Rattle.domain_core.specs.Rows.{suspended_join, too_early, receiver_first};
 ghost use Rattle.std.specs.Prelude.{◌≡◌, ◌↔◌, pos, List, [], ◌∷◌};
 
 /// A send and a receive join after the first tick of both domains. The sent value is received, and

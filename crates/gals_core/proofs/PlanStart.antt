@@ -19,7 +19,8 @@ use Rattle.kernel_rules.specs.definitions.LegalTick.{no_inputs}
 use Rattle.gals_core.specs.Setups.{order_setup}
 use Rattle.domain_core.specs.definitions.runs.Systems.{domain_count}
 use Rattle.domain_core.specs.definitions.runs.Scheduled.{turns_of}
-use Rattle.domain_core.proofs.lemmas.runs.WellFormedSystems.{system_is_fresh, system_joins, few_domains}
+use Rattle.domain_core.proofs.lemmas.runs.WellFormedSystems.{system_is_fresh, system_joins}
+use Rattle.kernel_terms.proofs.SystemLimits.{few_domains}
 use Rattle.gals_core.specs.declared.links.Link.{Link}
 use Rattle.gals_core.specs.Channels.{ChannelsState, cell_in, history_in, link_at, no_history}
 use Rattle.gals_core.specs.RunsOverCells.{IsNew}

@@ -1,5 +1,6 @@
 pub mod TreeWeights
 pub mod StartingEnds
+pub mod ResumingEnds
 pub mod StatementLayers
 pub mod PartLists
 pub mod WayLemmas

@@ -5,7 +5,7 @@ use Rattle.kernel_terms.specs.Statements.{Stmt, sequence, sequence_from, paralle
 use Rattle.kernel_terms.specs.MayEnd.{ends0}
 use Rattle.tick_tree.proofs.PartLists.{and_true}
 
-end-sequence_from : (p : Stmt) (ps : List Stmt) → ends0 (sequence_from p ps) ≡ list_all ends0 (p ∷ ps)
+pub end-sequence_from : (p : Stmt) (ps : List Stmt) → ends0 (sequence_from p ps) ≡ list_all ends0 (p ∷ ps)
 end-sequence_from p [] = sym (and_true (ends0 p))
 end-sequence_from p (q ∷ ps) = ap (λ b. ends0 p && b) (end-sequence_from q ps)
 

@@ -1,8 +1,9 @@
--- What one walk over a statement finds: the ways of its ticks, and the weights of its trees.
-use Rattle.std.specs.Prelude.{◌≡◌, ℕ, Bool, cond, List, [], ◌∷◌, Option, Some, None}
+-- What walks over a statement find: the ways of its ticks, the weights of its trees, and how parts in turn end.
+use Rattle.std.specs.Prelude.{◌≡◌, ℕ, Bool, true, false, ◌&&◌, ◌||◌, cond, List, [], ◌∷◌, Option, Some, None}
 use Rattle.std.specs.Int.{bit_at}
 use Rattle.kernel_terms.specs.Statements.{Stmt}
-use Rattle.kernel_terms.specs.MayEnd.{Ways, starting, resuming, resumes}
+use Rattle.std.specs.List.{list_all}
+use Rattle.kernel_terms.specs.MayEnd.{Ways, starting, resuming, resumes, ends0, ends1}
 use Rattle.tick_tree.specs.definitions.Shapes.{starting_shape, resuming_shape}
 use Rattle.tick_tree.specs.definitions.Weight.{capped, weight_of_shape, weight_of_some, nowhere}
 use Rattle.tick_tree.specs.declared.measure.Exits.{Exits}
@@ -36,3 +37,13 @@ IsMeasureOfParts nested [] None = Unit {0}
 IsMeasureOfParts nested [] (Some m) = ⊥
 IsMeasureOfParts nested (p ∷ ps) None = ⊥
 IsMeasureOfParts nested (p ∷ ps) (Some m) = IsMeasure (nested p ps) m
+
+-- some part may end in a later tick, and those after it in their starting ticks
+abbrev pub some_ends1 : List Stmt → Bool
+some_ends1 [] = false
+some_ends1 (p ∷ ps) = some_ends1 ps || (ends1 p && list_all ends0 ps)
+
+-- the parts may end in their starting ticks alone
+pub record IsPassed (ps : List Stmt) : Type 0 where
+  pub at_start : list_all ends0 ps ≡ true
+  pub later : some_ends1 ps ≡ false

@@ -1,4 +1,4 @@
-// Whether statements may end in their ticks, and what their trees weigh, in one walk.
+// Whether statements may end in their ticks, and what their trees weigh.
 
 ghost use Rattle.std.specs.Prelude.{◌≡◌, ◌+◌, ◌*◌, ◌%◌, ◌^◌, ◌<◌, ℕ, Bool, true, cond, List, Option, map};
 ghost use Rattle.std.specs.List.{list_all};
@@ -9,7 +9,7 @@ ghost use Rattle.kernel_terms.specs.Statements.{sequence, sequence_from, paralle
 ghost use Rattle.kernel_terms.specs.MayEnd.{Ways, ends0, ends1, either, in_turn, beside, within_trap};
 ghost use Rattle.tick_tree.specs.definitions.Leaves.{nodes_of, nodes_of_test, nodes_of_value};
 ghost use Rattle.tick_tree.specs.definitions.Weight.{weight_of};
-ghost use Rattle.tick_tree.specs.Measures.{resuming_weight, AreWays, IsMeasure, IsMeasureOfParts};
+ghost use Rattle.tick_tree.specs.Measures.{resuming_weight, AreWays, IsMeasure, IsMeasureOfParts, some_ends1};
 ghost use Rattle.tick_tree.specs.definitions.Exits.{exits_fit};
 ghost use Rattle.tick_tree.specs.definitions.Weight.{capped};
 
@@ -103,10 +103,52 @@ fn all_end0(parts: &[Term]) -> bool
 }
 
 /// Whether the statement may end in a later tick. Its exits are to depths below 64.
+#[cycle(ends1)]
 pub fn ends1(term: &Term) -> bool
     ensures { exits_fit (statement term.now) ≡ true → result ≡ ends1 (statement term.now) }
 {
-    measured(term).resuming.ends
+    match &term.form {
+        Form::Nothing | Form::Emit { .. } | Form::Assign { .. } => false,
+        Form::Loop(_) | Form::Exit(_) => false,
+        Form::Pause | Form::Send { .. } | Form::Receive { .. } => true,
+        Form::If { cond, yes, other } => {
+            let (yes, other) = (yes.get(), other.get());
+            if_parts_fit(term, cond, yes, other);
+            ends1(yes) || ends1(other)
+        }
+        Form::Present { test, yes, other } => {
+            let (yes, other) = (yes.get(), other.get());
+            present_parts_fit(term, test, yes, other);
+            ends1(yes) || ends1(other)
+        }
+        Form::Seq(parts) => {
+            let parts = parts.as_slice();
+            sequence_parts_fit(term, parts);
+            some_end1(parts)
+        }
+        Form::Par(_) | Form::Trap(_) | Form::Abort { .. } => measured(term).resuming.ends,
+        Form::Suspend { body, .. } => ends1(body.get()),
+        Form::Local { body, .. } => ends1(body.get()),
+    }
+}
+
+// Whether some part may end in a later tick, and those after it in their starting ticks.
+#[cycle(ends1)]
+#[tactic(auto, using(crate::proofs::ResumingEnds::ends_of_parts))]
+fn some_end1(parts: &[Term]) -> bool
+    ensures { list_all exits_fit (map statement parts.now) ≡ true → result ≡ some_ends1 (map statement parts.now) }
+{
+    for i in (0..parts.len()).rev() {
+        let part = &parts[i];
+        first_part_fits(parts, i, part);
+        if ends1(part) {
+            return true;
+        }
+        if !ends0(part) {
+            return false;
+        }
+    }
+    false
 }
 
 /// The weight of a domain's statement, up to 2^32. Its exits are to depths below 64.
@@ -257,7 +299,7 @@ fn waits(nodes: u64) -> Measure
 fn bit_of(depth: u32) -> u64
     ensures { depth < most_traps → result ≡ (1 * 2 ^ depth) % 2 ^ 64 }
 {
-    if depth < 64 { 1u64 << depth } else { 0 }
+    if depth < u64::BITS { 1u64 << depth } else { 0 }
 }
 
 fn exits_to(depth: u32) -> Measure

@@ -1,4 +1,5 @@
 pub mod BuiltCopies
+pub mod BuiltEnds
 pub mod BuiltLayers
 pub mod BuiltLists
 pub mod BuiltParts
@@ -15,5 +16,4 @@ pub mod CircuitWires
 pub mod CodeLiterals
 pub mod CodeTicks
 pub mod PairTerms
-pub mod PartEnds
 pub mod PlaceLists

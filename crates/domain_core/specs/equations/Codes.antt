@@ -5,7 +5,7 @@ use Rattle.kernel_terms.specs.declared.tables.Tables.{Tables}
 use Rattle.kernel_terms.specs.Statements.{Stmt}
 use Rattle.kernel_terms.specs.Statements as rules
 use Rattle.kernel_rules.specs.definitions.Signals.{Emission, Env, is_emitted}
-use Rattle.kernel_rules.specs.definitions.TickRule.{Tick, Ticks}
+use Rattle.kernel_rules.specs.definitions.TickRule.{Tick, Ticks, ended_code, paused_code}
 use Rattle.kernel_rules.specs.definitions.Registers.{FitRegisters, residual}
 use Rattle.domain_core.specs.declared.equations.codes.Codes.{Codes}
 use Rattle.domain_core.specs.equations.BuiltForms.{Plain}
@@ -26,9 +26,9 @@ pub record TellsTick (tables : Tables) (p : Stmt) (signals : ℕ) (own : List �
   pub pure : (s : ℕ) → s < signals → (env s).value ≡ pos 0
   pub zeros : (last x : ℕ → ℤ) → All (λ (e : Emission). e.value ≡ pos 0) (tick last x).emits
   pub below : (last x : ℕ → ℤ) → All (λ (e : Emission). e.signal < signals) (tick last x).emits
-  pub ends : (last x : ℕ → ℤ) → ended ≡ true → (tick last x).code ≡ 0
+  pub ends : (last x : ℕ → ℤ) → ended ≡ true → (tick last x).code ≡ ended_code
   pub over : (last x : ℕ → ℤ) → ended ≡ true → (tick last x).rest ≡ rules.Nothing
-  pub pauses : (last x : ℕ → ℤ) → ended ≡ false → (tick last x).code ≡ 1
+  pub pauses : (last x : ℕ → ℤ) → ended ≡ false → (tick last x).code ≡ paused_code
   pub fits : ended ≡ false → FitRegisters tables p 0 new
   pub rest : (last x : ℕ → ℤ) → ended ≡ false → residual tables p 0 new ≡ (tick last x).rest
 

@@ -8,12 +8,13 @@ ghost use Rattle.domain_core.specs.equations.Circuit.{start, resume, waiting};
 ghost use Rattle.domain_core.specs.equations.CircuitLists.{Adds, start_list, registers_of, resume_list, resume_before};
 
 use crate::equations::built_forms::{
-    count, count_all, ends0, ends1, first_part_is_built, loop_body_is_built, part_is_built,
+    built_exits_fit, count, count_all, first_part_is_built, loop_body_is_built, part_is_built,
     sequence_parts_are_built,
 };
 use java_values::NoMemory;
 use kernel_terms::{Form, Term};
 use tick_code::{Equation, Formula};
+use tick_tree::{ends0, ends1};
 
 /// Equations, and the wires that set registers and emit signals, each with the number that it sets
 /// or emits.
@@ -69,6 +70,7 @@ fn start_all(parts: &mut Parts, list: &[Term], go: u32, register: u32) -> Result
     for (at, term) in list.iter().enumerate() {
         part_is_built(list, at, term);
         done = start(parts, term, done, next)?;
+        built_exits_fit(term);
         if !ends0(term) {
             return Ok(done);
         }
@@ -132,6 +134,7 @@ pub fn resume(parts: &mut Parts, term: &Term, register: u32) -> Result<u32, NoMe
             let body = body.get();
             loop_body_is_built(term, body);
             let done = resume(parts, body, register)?;
+            built_exits_fit(body);
             if ends1(body) {
                 start(parts, body, done, register)?;
             }
@@ -177,6 +180,7 @@ fn resume_part(
     if after.is_empty() {
         return Ok(again);
     }
+    built_exits_fit(term);
     if !ends1(term) {
         return Ok(done);
     }

@@ -1,11 +1,12 @@
-// What a statement may do, as far as its shape tells, and how many registers it has.
+// What terms of the built forms tell of their parts, and how many registers they have.
 
-ghost use Rattle.std.specs.Prelude.{◌≡◌, ◌+◌, ◌^◌, ◌<◌, ◌≤◌, ◌∷◌, length, slice_index_or, map, drop, true, false};
+ghost use Rattle.std.specs.Prelude.{◌≡◌, ◌+◌, ◌^◌, ◌<◌, ◌≤◌, ◌∷◌, length, slice_index_or, map, drop, true};
 ghost use Rattle.kernel_terms.specs.Built.{is_built, all_built};
-ghost use Rattle.domain_core.specs.equations.BuiltForms.{plain, ends0, ends1};
+ghost use Rattle.kernel_terms.specs.Statements.{statement};
+ghost use Rattle.tick_tree.specs.definitions.Exits.{exits_fit};
+ghost use Rattle.domain_core.specs.equations.BuiltForms.{plain, whole};
 ghost use Rattle.domain_core.specs.equations.BuiltRegisters.{registers};
 ghost use Rattle.domain_core.specs.equations.CircuitLists.{registers_of};
-ghost use Rattle.domain_core.specs.equations.PartEnds.{parts_end0, parts_end1, IsPassed};
 
 use kernel_terms::{Form, Term};
 
@@ -45,71 +46,13 @@ pub fn part_is_built(list: &[Term], i: usize, part: &Term)
     ensures built { is_built part.now ≡ true }
 {}
 
-// A part of a list, where those after it may end in their starting ticks alone.
-#[tactic(auto, using(crate::proofs::lemmas::equations::PartEnds::ends_of_parts))]
-fn ends_of_part(list: &[Term], i: usize, part: &Term)
-    requires within { i < length list.now }
-    requires part { part.now ≡ slice_index_or list.now i part.now }
-    requires after { IsPassed (map plain (drop (i + 1) list.now)) }
-    ensures ends { ends1 (plain part.now) ≡ true → parts_end1 (map plain list.now) ≡ true }
-    ensures stops { ends1 (plain part.now) ≡ false → ends0 (plain part.now) ≡ false → parts_end1 (map plain list.now) ≡ false }
-    ensures passes { ends1 (plain part.now) ≡ false → ends0 (plain part.now) ≡ true → IsPassed (map plain (drop i list.now)) }
+// What the rules say of a statement of the built forms, in which nothing exits to a trap.
+#[tactic(auto, using(crate::proofs::lemmas::equations::BuiltEnds::exits_of_built))]
+pub fn built_exits_fit(term: &Term)
+    requires built { is_built term.now ≡ true }
+    ensures statement { statement term.now ≡ whole (plain term.now) }
+    ensures fit { exits_fit (statement term.now) ≡ true }
 {}
-
-/// Whether the statement may end in its starting tick.
-#[cycle(ends0)]
-#[tactic(auto, using(crate::proofs::lemmas::equations::PartEnds::ends_of_sequences))]
-pub fn ends0(term: &Term) -> bool
-    ensures { result ≡ ends0 (plain term.now) }
-{
-    match &term.form {
-        Form::Pause | Form::Loop(_) | Form::Send { .. } | Form::Receive { .. } => false,
-        Form::Seq(parts) => parts_end0(parts.as_slice()),
-        _ => true,
-    }
-}
-
-#[cycle(ends0)]
-fn parts_end0(parts: &[Term]) -> bool
-    ensures { result ≡ parts_end0 (map plain parts.now) }
-{
-    for part in parts {
-        if !ends0(part) {
-            return false;
-        }
-    }
-    true
-}
-
-/// Whether the statement may end in a later tick.
-#[cycle(ends1)]
-#[tactic(auto, using(crate::proofs::lemmas::equations::PartEnds::ends_of_sequences))]
-pub fn ends1(term: &Term) -> bool
-    ensures { result ≡ ends1 (plain term.now) }
-{
-    match &term.form {
-        Form::Pause | Form::Send { .. } | Form::Receive { .. } => true,
-        Form::Seq(parts) => parts_end1(parts.as_slice()),
-        _ => false,
-    }
-}
-
-#[cycle(ends1)]
-fn parts_end1(parts: &[Term]) -> bool
-    ensures { result ≡ parts_end1 (map plain parts.now) }
-{
-    for i in (0..parts.len()).rev() {
-        let part = &parts[i];
-        ends_of_part(parts, i, part);
-        if ends1(part) {
-            return true;
-        }
-        if !ends0(part) {
-            return false;
-        }
-    }
-    false
-}
 
 /// How many registers the statement has.
 #[cycle(count)]

@@ -2,6 +2,7 @@
 
 ghost use Rattle.std.specs.Prelude.{◌≡◌, ◌⊎◌, ℕ, suc, ◌<◌, ◌≤◌, ◌^◌, List, [], length};
 ghost use Rattle.kernel_terms.specs.declared.system.System.{System};
+ghost use Rattle.kernel_terms.specs.Limits.{most_domains};
 ghost use Rattle.kernel_terms.specs.Systems.{domains_of};
 ghost use Rattle.kernel_rules.specs.definitions.LegalTick.{Inputs};
 ghost use Rattle.tick_log.specs.definitions.Runs.{RunState, tick_count, join_count, tick_of};
@@ -108,7 +109,7 @@ pub fn joins_are_within_ticks()
 /// Each channel of a system joins two different ones of its domains, of which there are at most 16.
 pub fn systems_join_domains()
     ensures joined { (system : System) (inputs : Inputs) → IsSystem (setup_of system inputs) }
-    ensures few { (system : System) → length (domains_of system) ≤ 16 }
+    ensures few { (system : System) → length (domains_of system) ≤ most_domains }
 {}
 
 /// No statement of a system waits at its start.

@@ -1,6 +1,7 @@
 // A compiled domain.
 
-ghost use Rattle.std.specs.Prelude.{◌≡◌, ◌+◌, ◌^◌, ◌<◌, ◌≤◌, ℕ, cond, false, true, get_or, length, max, IfOk, IsErr};
+ghost use Rattle.std.specs.Prelude.{◌≡◌, ◌+◌, ◌*◌, ◌^◌, ◌<◌, ◌≤◌, ℕ, cond, false, true, get_or, length, max, IfOk, IsErr};
+ghost use Rattle.kernel_terms.specs.Limits.{most_domains, most_channels, most_signals, most_variables};
 ghost use Rattle.kernel_terms.specs.Systems.{tables_of, domains_of};
 ghost use Rattle.kernel_terms.specs.TableEntries.{variables_of};
 ghost use Rattle.kernel_terms.specs.Marks.{Going, Ended, is_over};
@@ -76,9 +77,9 @@ impl From<NoMemory> for CompileError {
 
 #[tactic(auto, using(crate::proofs::lemmas::runs::WellFormedSystems::limits_of_systems))]
 fn tables_are_limited(system: &System)
-    ensures signals { length (tables_of system.now).signals ≤ 16384 }
-    ensures channels { length (tables_of system.now).channels ≤ 64 }
-    ensures variables { (d : ℕ) → d < length (domains_of system.now) → length (variables_of (tables_of system.now) d) ≤ 1024 }
+    ensures signals { length (tables_of system.now).signals ≤ most_domains * most_signals }
+    ensures channels { length (tables_of system.now).channels ≤ most_channels }
+    ensures variables { (d : ℕ) → d < length (domains_of system.now) → length (variables_of (tables_of system.now) d) ≤ most_variables }
 {}
 
 #[tactic(auto, using(crate::proofs::lemmas::step::CompilableDomains::can_builds))]

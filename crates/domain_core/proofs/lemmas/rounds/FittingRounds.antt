@@ -13,7 +13,7 @@ use Rattle.domain_core.specs.definitions.runs.Systems.{WaitsToSend, WaitsToRecei
 use Rattle.domain_core.specs.definitions.runs.Stamps.{IsTickStamp, last_stamp, stamp_of_join}
 use Rattle.domain_core.specs.definitions.rounds.Rounds.{Offer, Rounds, IsFoundStamp, recalled, RecallsStanding, IsRound, entry_stamps, OffersWaiting, IsRounds, RowsAreFound, last_recall}
 use Rattle.domain_core.specs.definitions.rounds.Interleavings.{at_cell, placed, own_actions, in_rounds, side_at, IsInterleaving}
-use Rattle.domain_core.specs.definitions.Rows.{rendezvous, rendezvous_run, one_interleaving, IsByRounds}
+use Rattle.domain_core.specs.Rows.{rendezvous, rendezvous_run, one_interleaving, IsByRounds}
 use Rattle.domain_core.proofs.lemmas.runs.WorkedRuns.{after, legal_tick, zeros}
 use Rattle.domain_core.proofs.lemmas.runs.Rendezvous.{sending, receiving, sent, received, system}
 use Rattle.domain_core.proofs.lemmas.rounds.InterleavedRounds.{interleaving_fits}

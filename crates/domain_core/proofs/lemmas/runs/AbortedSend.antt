@@ -10,7 +10,7 @@ use Rattle.tick_log.specs.definitions.Runs.{log_of, tick_count, join_count}
 use Rattle.domain_core.specs.definitions.runs.Systems.{SystemState, JoinRecord, MakesTick, MakesJoin, IsSystem, IsFresh, WaitsToSend, WaitsToReceive, start, start_of, sender_of, receiver_of}
 use Rattle.domain_core.specs.definitions.runs.LegalRuns.{IsLegalRun, Fits}
 use Rattle.domain_core.specs.definitions.runs.Scheduled.{TakesTurns, IsScheduledRun, IsWholeRun}
-use Rattle.domain_core.specs.definitions.Rows.{aborted_send, withdrawn_run, receiver_last, joined_run, early_join, two_rounds}
+use Rattle.domain_core.specs.Rows.{aborted_send, withdrawn_run, receiver_last, joined_run, early_join, two_rounds}
 use Rattle.domain_core.proofs.lemmas.runs.StatesBetweenTicks.{put_apart}
 use Rattle.domain_core.proofs.lemmas.runs.StampRuleLemmas.{later_stamp}
 use Rattle.domain_core.proofs.lemmas.runs.WorkedRuns.{ticked, zeros, either, joined, no_join, one_join, takes_turn, none_past}

@@ -3,7 +3,7 @@ use Rattle.std.proofs.Common.{◌≡◌, ℕ, zero, suc, List, [], ◌∷◌, re
 use Rattle.std.specs.Prelude.{◌↔◌}
 use Rattle.tick_log.specs.definitions.Runs.{RunState}
 use Rattle.tick_log.specs.definitions.StampOrder.{Event, TickOf, JoinOf, IsEventOf, stamp_of, IsBefore, by_stamp, at_one_stamp, IsIn, Ascends, IsStampOrder}
-use Rattle.domain_core.specs.definitions.Rows.{rendezvous_run, join_between, join_last}
+use Rattle.domain_core.specs.Rows.{rendezvous_run, join_between, join_last}
 use Rattle.domain_core.proofs.lemmas.runs.StampOrders.{before_on, before_self}
 
 -- the first events of two lists with the same members are the same

@@ -13,7 +13,7 @@ use Rattle.tick_log.specs.definitions.Runs.{join_count}
 use Rattle.domain_core.specs.definitions.runs.Systems.{SystemState, Steps, WaitsToSend, WaitsToReceive, start, start_of}
 use Rattle.domain_core.specs.definitions.runs.LegalRuns.{IsLegalRun, SpendsBudgets, IsAtRest}
 use Rattle.domain_core.specs.definitions.runs.OwnRuns.{HasOwnRuns, IsOwnRun, with_joins}
-use Rattle.domain_core.specs.definitions.Rows.{rendezvous, rendezvous_run, rendezvous_with, first_ticks}
+use Rattle.domain_core.specs.Rows.{rendezvous, rendezvous_run, rendezvous_with, first_ticks}
 use Rattle.domain_core.proofs.lemmas.runs.LegalRunProjections.{legal_has_own_runs}
 use Rattle.domain_core.proofs.lemmas.runs.Rendezvous.{system, first-steps}
 

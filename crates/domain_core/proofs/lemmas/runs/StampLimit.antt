@@ -13,7 +13,8 @@ use Rattle.domain_core.specs.definitions.runs.Systems.{setup_of}
 use Rattle.domain_core.specs.definitions.runs.LegalRuns.{Fits, HasStamps}
 use Rattle.domain_core.specs.definitions.runs.StampBound.{sum_below, event_count, IsNextStamp, IsSmallRun}
 use Rattle.domain_core.proofs.lemmas.runs.StampBound.{stamp_within_count, next_stamp_within}
-use Rattle.domain_core.proofs.lemmas.runs.WellFormedSystems.{system_joins, few_domains, few_channels}
+use Rattle.domain_core.proofs.lemmas.runs.WellFormedSystems.{system_joins}
+use Rattle.kernel_terms.proofs.SystemLimits.{few_domains, few_channels}
 
 sum_most : (f : ℕ → ℕ) (n : ℕ) → ((k : ℕ) → k < n → f k ≤ 100000) → sum_below f n ≤ n * 100000
 sum_most f zero h = omega arith

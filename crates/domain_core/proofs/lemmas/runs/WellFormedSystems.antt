@@ -14,6 +14,7 @@ use Rattle.kernel_terms.specs.Systems.{tables_of, domains_of}
 use Rattle.kernel_terms.specs.TableEntries.{channel_at, numbers_where, no_channel, variables_of}
 use Rattle.kernel_terms.specs.Statements.{Stmt, Nothing, Pause, Emit, Assign, If, Present, Seq, Loop, Par, Trap, Exit, Abort, Suspend, Local, Send, Receive, SendWaits, Sent, ReceiveWaits, Received, statement}
 use Rattle.kernel_terms.specs.WellFormed.{Scope, fits_statement, fit_statements, fits_test, is_given, is_local_of, has_names, is_within_limits, has_entries, has_parts, declares_each_once, all_below, signals_of, is_signal_entry, is_channel_entry, interface_comes_first, combines}
+use Rattle.kernel_terms.proofs.SystemLimits.{few_domains, few_channels}
 use Rattle.domain_core.specs.definitions.runs.Systems.{WaitsToSend, WaitsToReceive, IsSystem, IsFresh, setup_of}
 use Rattle.domain_core.specs.definitions.runs.Systems.{source_of}
 use Rattle.kernel_rules.specs.definitions.LegalTick.{Inputs}
@@ -154,15 +155,6 @@ system_joins system inputs =
       apart = λ c less. different (channel_at t c).sender (channel_at t c).receiver (right (nat_lt (channel_at t c).receiver n) _ (right (nat_lt (channel_at t c).sender n) _ (at c less)));
     }
 
--- the limits
-pub few_domains : (system : System) → length (domains_of system) ≤ 16
-few_domains system = leb-true (length (domains_of system)) most_domains (left (nat_le (length (domains_of system)) most_domains) _ (limits system))
-
-pub few_channels : (system : System) → length (tables_of system).channels ≤ 64
-few_channels system =
-    leb-true (length (tables_of system).channels) most_channels
-    (left (nat_le (length (tables_of system).channels) most_channels) _ (right (nat_le (length (domains_of system)) most_domains) _ (limits system)))
-
 -- how many of the entries are of the first so many domains
 abbrev total : ℕ → List SignalInfo → ℕ → ℕ
 total k xs zero = 0
@@ -195,7 +187,7 @@ all_counted k n (x ∷ xs) h =
     let less = ltb-true x.domain n (left (nat_lt x.domain n) (combines x.kind x.combine) (left (is_signal_entry n x) (list_all (is_signal_entry n) xs) h)) in
     omega (arith, total_more k n x xs less, all_counted (suc k) n xs (right (is_signal_entry n x) (list_all (is_signal_entry n) xs) h))
 
-total_few : (t : Tables) (n : ℕ) → all_below (λ d. nat_le (length (signals_of t d)) most_signals && nat_le (length (variables_of t d)) most_variables) n ≡ true → total 0 t.signals n ≤ n * 1024
+total_few : (t : Tables) (n : ℕ) → all_below (λ d. nat_le (length (signals_of t d)) most_signals && nat_le (length (variables_of t d)) most_variables) n ≡ true → total 0 t.signals n ≤ n * most_signals
 total_few t zero h = omega arith
 total_few t (suc n) h =
     let here = left (nat_le (length (signals_of t n)) most_signals && nat_le (length (variables_of t n)) most_variables) _ h in
@@ -203,7 +195,7 @@ total_few t (suc n) h =
     let rest = total_few t n (right (nat_le (length (signals_of t n)) most_signals && nat_le (length (variables_of t n)) most_variables) _ h) in
     omega (arith, few, rest)
 
-pub few_signals : (system : System) → length (tables_of system).signals ≤ 16384
+pub few_signals : (system : System) → length (tables_of system).signals ≤ most_domains * most_signals
 few_signals system =
     let t = tables_of system in
     let n = length (domains_of system) in
@@ -220,7 +212,7 @@ few_at t (suc n) h d less = elim (cases_eq d n) [
   | inr ne ↦ few_at t n (right (nat_le (length (signals_of t n)) most_signals && nat_le (length (variables_of t n)) most_variables) _ h) d (omega (arith, less, ne))
 ]
 
-pub few_variables : (system : System) (d : ℕ) → d < length (domains_of system) → length (variables_of (tables_of system) d) ≤ 1024
+pub few_variables : (system : System) (d : ℕ) → d < length (domains_of system) → length (variables_of (tables_of system) d) ≤ most_variables
 few_variables system d less =
     let t = tables_of system in
     let n = length (domains_of system) in
