@@ -5,3 +5,13 @@ pub mod UseLemmas
 pub mod OwnedLemmas
 pub mod OrderLemmas
 pub mod DeclaredLemmas
+pub mod ListedNames
+pub mod EndLemmas
+pub mod EntryLemmas
+pub mod PartEntries
+pub mod DomainEntries
+pub mod SoundUses
+pub mod PortEntries
+pub mod SoundLemmas
+pub mod SoundLimits
+pub mod SoundNames

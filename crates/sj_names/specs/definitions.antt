@@ -4,3 +4,4 @@ pub mod Failures
 pub mod NumberedTrees
 pub mod DeclaredTables
 pub mod Bindings
+pub mod SoundTables

@@ -1,6 +1,7 @@
 ghost use Rattle.std.specs.Prelude.{IfOk, IfErr};
 ghost use Rattle.sj_names.specs.definitions.Bindings.{IsBinding, IsWhyUnbound};
 
+use crate::entry::Entry;
 use crate::failure::Failure;
 use crate::numbering::numbered_tree;
 use crate::program::TreeNames;
@@ -11,10 +12,10 @@ use sj_ast::{Name, Raw, Tree};
 use std::alloc::Global;
 use thiserror::Error;
 
-/// A tree with numbers in place of names, and what each number stands for.
+/// A tree with numbers in place of names, in expressions with entries, and the tables of them.
 #[derive(Debug, Drop)]
 pub struct Bound {
-    pub tree: Tree<u32, Raw<u32>>,
+    pub tree: Tree<u32, Raw<Entry>>,
     pub tables: Tables,
 }
 

@@ -5,6 +5,7 @@ mod binding;
 mod declared;
 mod domains;
 mod ends;
+mod entry;
 mod expressions;
 mod failure;
 mod failures;
@@ -17,16 +18,19 @@ mod owners;
 mod program;
 mod rows;
 mod sharing;
+mod sound;
 mod statements;
 mod tables;
 mod uses;
 
 pub use binding::{BindError, Bound, bind};
+pub use entry::Entry;
 pub use failure::{Failure, Fault};
 pub use mention::{Counts, Group, Meaning, Mention, Role, Sort, Use};
 pub use numbering::numbered_tree;
 pub use program::TreeNames;
 pub use rows::{small_interfaces, small_limits, small_name_failures, small_tables};
+pub use sound::{sound_interface, sound_names, sound_tables};
 
 #[cfg(test)]
 mod tests;

@@ -1,9 +1,10 @@
 ghost use Rattle.std.specs.Prelude.{◌≡◌, ◌∷◌, ◌++◌, [], IfOk, map, drop};
-ghost use Rattle.sj_names.specs.definitions.NumberedTrees.{number_of, numbered_expression, numbered_test, numbered_value, numbered_signal, numbered_stmt, numbered_form, numbered_block, numbered_other, blocks_in_order, stmts_in_order, numbered_port, numbered_ports, numbered_tree};
+ghost use Rattle.sj_names.specs.definitions.NumberedTrees.{number_of, status_entry, numbered_expression, numbered_test, numbered_value, numbered_signal, numbered_stmt, numbered_form, numbered_block, numbered_other, blocks_in_order, stmts_in_order, numbered_port, numbered_ports, numbered_tree};
 ghost use Rattle.sj_names.specs.definitions.Scopes.{declare};
 ghost use Rattle.sj_names.specs.VisibleNames.{scope_of};
 
-use crate::mention::{Role, Sort};
+use crate::entry::Entry;
+use crate::mention::{Meaning, Role, Sort};
 use crate::names::Names;
 use crate::statements::signal_sort;
 use java_values::NoMemory;
@@ -17,11 +18,27 @@ fn number(names: &Names<'_>, role: Role, name: &Name) -> u32
     names.number(role, name.text.bytes())
 }
 
+/// What `#` reads.
+fn status_entry(names: &Names<'_>, name: &Name) -> Entry
+    ensures { result ≡ status_entry name.now (scope_of names.now) }
+{
+    let number = number(names, Role::Status, name);
+    match names.meaning(name.text.bytes()) {
+        Some(
+            Meaning {
+                sort: Sort::Channel,
+                ..
+            },
+        ) => Entry::Channel(number),
+        _ => Entry::Signal(number),
+    }
+}
+
 fn expression(
     alloc: Global,
     names: &Names<'_>,
     expression: &Raw<Name>,
-) -> Result<Raw<u32>, NoMemory>
+) -> Result<Raw<Entry>, NoMemory>
     ensures { IfOk result (λ e. e ≡ numbered_expression expression.now (scope_of names.now)) }
 {
     Ok(match expression {
@@ -35,12 +52,12 @@ fn expression(
         },
         Raw::Variable { at, name } => Raw::Variable {
             at: *at,
-            name: number(names, Role::Variable, name),
+            name: Entry::Variable(number(names, Role::Variable, name)),
         },
         Raw::Status { at, name_at, name } => Raw::Status {
             at: *at,
             name_at: *name_at,
-            name: number(names, Role::Status, name),
+            name: status_entry(names, name),
         },
         Raw::Unary { at, op, operand } => Raw::Unary {
             at: *at,
@@ -103,7 +120,7 @@ fn value(
     alloc: Global,
     names: &Names<'_>,
     value: &Option<Raw<Name>>,
-) -> Result<Option<Raw<u32>>, NoMemory>
+) -> Result<Option<Raw<Entry>>, NoMemory>
     ensures { IfOk result (λ o. o ≡ numbered_value value.now (scope_of names.now)) }
 {
     match value {
@@ -136,7 +153,7 @@ fn statement<'a>(
     alloc: Global,
     names: &mut Names<'a>,
     statement: &'a Stmt<Name, Raw<Name>>,
-) -> Result<Stmt<u32, Raw<u32>>, NoMemory>
+) -> Result<Stmt<u32, Raw<Entry>>, NoMemory>
     ensures value { IfOk result (λ t. t ≡ (numbered_stmt statement.now (scope_of names.old)).value) }
     ensures scope { IfOk result (λ _. scope_of names.new ≡ (numbered_stmt statement.now (scope_of names.old)).scope) }
 {
@@ -152,7 +169,7 @@ fn form<'a>(
     alloc: Global,
     names: &mut Names<'a>,
     form: &'a Form<Name, Raw<Name>>,
-) -> Result<Form<u32, Raw<u32>>, NoMemory>
+) -> Result<Form<u32, Raw<Entry>>, NoMemory>
     ensures value { IfOk result (λ f. f ≡ (numbered_form form.now (scope_of names.old)).value) }
     ensures scope { IfOk result (λ _. scope_of names.new ≡ (numbered_form form.now (scope_of names.old)).scope) }
 {
@@ -333,7 +350,7 @@ fn block_where_given<'a>(
     alloc: Global,
     names: &mut Names<'a>,
     given: &'a Option<Block<Name, Raw<Name>>>,
-) -> Result<Option<Block<u32, Raw<u32>>>, NoMemory>
+) -> Result<Option<Block<u32, Raw<Entry>>>, NoMemory>
     ensures value { IfOk result (λ o. o ≡ (numbered_other given.now (scope_of names.old)).value) }
     ensures scope { IfOk result (λ _. scope_of names.new ≡ (numbered_other given.now (scope_of names.old)).scope) }
 {
@@ -348,7 +365,7 @@ fn blocks<'a>(
     alloc: Global,
     names: &mut Names<'a>,
     blocks: &'a [Block<Name, Raw<Name>>],
-) -> Result<Items<Block<u32, Raw<u32>>>, NoMemory>
+) -> Result<Items<Block<u32, Raw<Entry>>>, NoMemory>
     ensures value { IfOk result (λ bs. bs ≡ (blocks_in_order (map numbered_block blocks.now) (scope_of names.old)).value) }
     ensures scope { IfOk result (λ _. scope_of names.new ≡ (blocks_in_order (map numbered_block blocks.now) (scope_of names.old)).scope) }
 {
@@ -365,7 +382,7 @@ fn block<'a>(
     alloc: Global,
     names: &mut Names<'a>,
     block: &'a Block<Name, Raw<Name>>,
-) -> Result<Block<u32, Raw<u32>>, NoMemory>
+) -> Result<Block<u32, Raw<Entry>>, NoMemory>
     ensures value { IfOk result (λ b. b ≡ (numbered_block block.now (scope_of names.old)).value) }
     ensures scope { IfOk result (λ _. scope_of names.new ≡ (numbered_block block.now (scope_of names.old)).scope) }
 {
@@ -383,7 +400,7 @@ fn statements<'a>(
     alloc: Global,
     names: &mut Names<'a>,
     statements: &'a [Stmt<Name, Raw<Name>>],
-) -> Result<Items<Stmt<u32, Raw<u32>>>, NoMemory>
+) -> Result<Items<Stmt<u32, Raw<Entry>>>, NoMemory>
     ensures value { IfOk result (λ ts. ts ≡ (stmts_in_order (map numbered_stmt statements.now) (scope_of names.old)).value) }
     ensures scope { IfOk result (λ _. scope_of names.new ≡ (stmts_in_order (map numbered_stmt statements.now) (scope_of names.old)).scope) }
 {
@@ -433,12 +450,12 @@ fn ports<'a>(
     Ok(Items::from_vec(numbered))
 }
 
-/// The tree with numbers in place of names. A name has the number of what it stands for, among the names of its sort
-/// in order of declaration.
+/// The tree with numbers in place of names, and in its expressions entries. A name has the number of what it stands
+/// for, among the names of its sort in order of declaration.
 pub fn numbered_tree(
     alloc: Global,
     tree: &Tree<Name, Raw<Name>>,
-) -> Result<Tree<u32, Raw<u32>>, NoMemory>
+) -> Result<Tree<u32, Raw<Entry>>, NoMemory>
     ensures { IfOk result (λ t. t ≡ numbered_tree tree.now) }
 {
     let mut names = Names::new(alloc);

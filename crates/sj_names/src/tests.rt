@@ -1,4 +1,4 @@
-use crate::{Failure, Fault, TreeNames, bind, numbered_tree};
+use crate::{Entry, Failure, Fault, TreeNames, bind, numbered_tree};
 use java_values::{Kind, Text, Value};
 use sj_ast::{
     Block, ChannelPort, Direction, Form, Name, Port, Raw, Signal, SignalPort, Stmt, Test, Tree,
@@ -224,7 +224,7 @@ fn the_test_of_each_form_is_read(rt: HostRuntime) -> Result<(), Fail> {
 }
 
 // The number of an emitted or declared signal.
-fn number_of(statement: &Stmt<u32, Raw<u32>>) -> Option<u32> {
+fn number_of(statement: &Stmt<u32, Raw<Entry>>) -> Option<u32> {
     match &statement.form {
         Form::Emit { name, .. } => Some(*name),
         Form::Declare(signal) => Some(signal.name),
@@ -361,5 +361,72 @@ fn tables_have_each_name_of_its_domain(rt: HostRuntime) -> Result<(), Fail> {
         kinds.push((variable.domain, variable.kind))?;
     }
     assert_eq!(rt; kinds[..], [(1, Kind::Byte)][..]);
+    Ok(())
+}
+
+// A signal that is emitted with what `#` reads.
+fn emit_status(alloc: Global, text: &[u8], at: u32, read: &[u8]) -> Result<Statement, AllocError> {
+    let value = Raw::Status {
+        at,
+        name_at: at,
+        name: name(alloc, read, at)?,
+    };
+    let name = name(alloc, text, at)?;
+    Ok(Stmt {
+        at,
+        form: Form::Emit {
+            name_at: at,
+            name,
+            value: Some(value),
+        },
+    })
+}
+
+// What the value of an emission or of a send reads.
+fn entry_of(statement: &Stmt<u32, Raw<Entry>>) -> Option<Entry> {
+    let value = match &statement.form {
+        Form::Emit { value, .. } => value.as_ref()?,
+        Form::Send { value, .. } => value,
+        _ => return None,
+    };
+    match value {
+        Raw::Status { name, .. } => Some(*name),
+        Raw::Variable { name, .. } => Some(*name),
+        _ => None,
+    }
+}
+
+#[test]
+fn names_of_expressions_are_entries(rt: HostRuntime) -> Result<(), Fail> {
+    let alloc = rt.alloc();
+    let mut ports = Vec::new(alloc);
+    ports.push(output(alloc, b"A", 1)?)?;
+    ports.push(output(alloc, b"B", 2)?)?;
+    ports.push(channel(alloc, b"C", 3)?)?;
+    let mut statements = Vec::new(alloc);
+    statements.push(emit_status(alloc, b"A", 5, b"B")?)?;
+    statements.push(emit_status(alloc, b"A", 6, b"C")?)?;
+    statements.push(variable(alloc, b"x", 7, b"x", 7)?)?;
+    statements.push(variable(alloc, b"y", 8, b"x", 8)?)?;
+    statements.push(send(alloc, b"C", 9, b"y")?)?;
+    let mut domains = Vec::new(alloc);
+    domains.push(block(statements))?;
+    let tree = Tree {
+        ports: Items::from_vec(ports),
+        domains: Items::from_vec(domains),
+    };
+    let numbered = numbered_tree(alloc, &tree).map_err(|_| AllocError)?;
+    let mut entries = Vec::new(alloc);
+    for domain in numbered.domains.as_slice() {
+        for statement in domain.statements.as_slice() {
+            if let Some(entry) = entry_of(statement) {
+                entries.push(entry)?;
+            }
+        }
+    }
+    assert_eq!(rt;
+        entries[..],
+        [Entry::Signal(1), Entry::Channel(0), Entry::Variable(1)][..]
+    );
     Ok(())
 }

@@ -22,6 +22,8 @@ use Rattle.sj_names.specs.declared.mention.Role.{Role}
 use Rattle.sj_names.specs.declared.mention.Role.TheVariants as role
 use Rattle.sj_names.specs.declared.mention.Meaning.{Meaning}
 use Rattle.sj_names.specs.declared.mention.Counts.{Counts}
+use Rattle.sj_names.specs.declared.entry.Entry.{Entry}
+use Rattle.sj_names.specs.declared.entry.Entry.TheVariants as entry
 use Rattle.sj_names.specs.definitions.Scopes.{Scope, no_names, meaning_in, count_of, declare, closed_at}
 use Rattle.sj_names.specs.definitions.Mentions.{signal_sort}
 
@@ -35,20 +37,33 @@ number_where r None counts = 0
 abbrev pub number_of : Role → Name → Scope → ℕ
 number_of r name scope = number_where r (meaning_in scope.visible name.text) scope.counts
 
+-- a `#` reads a channel where its name stands for one, and else a signal
+abbrev pub entry_of_sort : Sort → ℕ → Entry
+entry_of_sort sort.Channel n = entry.Channel n
+entry_of_sort _ n = entry.Signal n
+
+abbrev pub entry_where : Option Meaning → ℕ → Entry
+entry_where (Some m) n = entry_of_sort m.sort n
+entry_where None n = entry.Signal n
+
+abbrev pub status_entry : Name → Scope → Entry
+status_entry name scope = entry_where (meaning_in scope.visible name.text) (number_of role.Status name scope)
+
+-- an expression has entries of the tables in place of names
 abbrev pub NumberedExpression : Type 0
-NumberedExpression = raw.Raw ℕ
+NumberedExpression = raw.Raw Entry
 
 abbrev pub NumberedTest : Type 0
 NumberedTest = signal_test.Test ℕ
 
 abbrev pub NumberedForm : Type 0
-NumberedForm = form.Form ℕ (raw.Raw ℕ)
+NumberedForm = form.Form ℕ (raw.Raw Entry)
 
 abbrev pub NumberedStmt : Type 0
-NumberedStmt = stmt.Stmt ℕ (raw.Raw ℕ)
+NumberedStmt = stmt.Stmt ℕ (raw.Raw Entry)
 
 abbrev pub NumberedBlock : Type 0
-NumberedBlock = block.Block ℕ (raw.Raw ℕ)
+NumberedBlock = block.Block ℕ (raw.Raw Entry)
 
 -- a part of the tree with numbers, and the scope behind it
 pub record Numbered (X : Type 0) : Type 0 where
@@ -60,8 +75,8 @@ pub record Numbered (X : Type 0) : Type 0 where
 abbrev pub numbered_raw_layer : Raw-F Name (Scope → NumberedExpression) → Scope → NumberedExpression
 numbered_raw_layer (Raw-F.Literal at v) s = raw.Literal at v
 numbered_raw_layer (Raw-F.Least at v) s = raw.Least at v
-numbered_raw_layer (Raw-F.Variable at name) s = raw.Variable at (number_of role.Variable name s)
-numbered_raw_layer (Raw-F.Status at name_at name) s = raw.Status at name_at (number_of role.Status name s)
+numbered_raw_layer (Raw-F.Variable at name) s = raw.Variable at (entry.Variable (number_of role.Variable name s))
+numbered_raw_layer (Raw-F.Status at name_at name) s = raw.Status at name_at (status_entry name s)
 numbered_raw_layer (Raw-F.Unary at op e) s = raw.Unary at op (e s)
 numbered_raw_layer (Raw-F.Cast at kind e) s = raw.Cast at kind (e s)
 numbered_raw_layer (Raw-F.Group at e) s = raw.Group at (e s)
@@ -155,13 +170,13 @@ numbered_form_layer (Form-F.Every immediate test body) s = with_block (body s) (
 numbered_form_layer (Form-F.Loop body test) s = record { value = form.Loop (body s).value (numbered_test test (body s).scope); scope = (body s).scope }
 
 abbrev pub closed_block : ℕ → Scope → Numbered (List NumberedStmt) → Numbered NumberedBlock
-closed_block at s n = record { value = block.roll-Block ℕ (raw.Raw ℕ) (record { at = at; statements = n.value }); scope = closed_at (length s.visible) n.scope }
+closed_block at s n = record { value = block.roll-Block ℕ (raw.Raw Entry) (record { at = at; statements = n.value }); scope = closed_at (length s.visible) n.scope }
 
 abbrev pub numbered_block_layer : Block-F Name (raw.Raw Name) FormPart BlockPart StmtPart → BlockPart
 numbered_block_layer b s = closed_block b.at s (stmts_in_order b.statements s)
 
 abbrev pub numbered_stmt_layer : Stmt-F Name (raw.Raw Name) FormPart BlockPart StmtPart → StmtPart
-numbered_stmt_layer t s = record { value = stmt.roll-Stmt ℕ (raw.Raw ℕ) (record { at = t.at; form = (t.form s).value }); scope = (t.form s).scope }
+numbered_stmt_layer t s = record { value = stmt.roll-Stmt ℕ (raw.Raw Entry) (record { at = t.at; form = (t.form s).value }); scope = (t.form s).scope }
 
 abbrev pub numbered_form : form.Form Name (raw.Raw Name) → FormPart
 numbered_form = fold-Form Name (raw.Raw Name) FormPart BlockPart StmtPart numbered_form_layer numbered_block_layer numbered_stmt_layer
@@ -193,6 +208,6 @@ abbrev pub numbered_ports : List (port.Port Name) → Scope → Numbered (List (
 numbered_ports [] s = record { value = []; scope = s }
 numbered_ports (p ∷ ps) s = record { value = (numbered_port p s).value ∷ (numbered_ports ps (numbered_port p s).scope).value; scope = (numbered_ports ps (numbered_port p s).scope).scope }
 
-abbrev pub numbered_tree : Tree Name (raw.Raw Name) → Tree ℕ (raw.Raw ℕ)
+abbrev pub numbered_tree : Tree Name (raw.Raw Name) → Tree ℕ (raw.Raw Entry)
 numbered_tree tree =
     record { ports = (numbered_ports tree.ports no_names).value; domains = (blocks_in_order (map numbered_block tree.domains) (numbered_ports tree.ports no_names).scope).value }

@@ -1,0 +1,37 @@
+// What is promised of the names and tables of a tree whose names have no failure.
+
+ghost use Rattle.std.specs.Prelude.{◌≡◌, ◌≤◌, [], true, length, map};
+ghost use Rattle.std.specs.List.{list_all};
+ghost use Rattle.java_values.specs.Names.{is_name};
+ghost use Rattle.kernel_terms.specs.WellFormed.{has_names, is_within_limits, interface_comes_first, is_channel_entry, is_variable_entry};
+ghost use Rattle.sj_names.specs.definitions.Mentions.{names_of_tree};
+ghost use Rattle.sj_names.specs.definitions.Failures.{failures_of};
+ghost use Rattle.sj_names.specs.definitions.DeclaredTables.{tables_of_tree};
+ghost use Rattle.sj_names.specs.definitions.SoundTables.{port_name, has_domain, are_sound};
+
+use sj_ast::{Name, Raw, Tree};
+
+/// The names of the domains stand for entries of the tables that they may use in their roles.
+pub fn sound_names(tree: &Tree<Name, Raw<Name>>)
+    requires sound { failures_of (names_of_tree tree.now) ≡ [] }
+    ensures { are_sound (tables_of_tree tree.now) 0 (names_of_tree tree.now).domains ≡ true }
+{}
+
+/// The tables are within the limits. Each entry belongs to domains of the tree, a channel to two of them, and
+/// interface signals come before local ones.
+pub fn sound_tables(tree: &Tree<Name, Raw<Name>>)
+    requires sound { failures_of (names_of_tree tree.now) ≡ [] }
+    requires some { 1 ≤ length tree.now.domains }
+    ensures limits { is_within_limits (tables_of_tree tree.now) (length tree.now.domains) ≡ true }
+    ensures signals { list_all (has_domain (length tree.now.domains)) (tables_of_tree tree.now).signals ≡ true }
+    ensures order { interface_comes_first (tables_of_tree tree.now).signals ≡ true }
+    ensures channels { list_all (is_channel_entry (length tree.now.domains)) (tables_of_tree tree.now).channels ≡ true }
+    ensures variables { list_all (is_variable_entry (length tree.now.domains)) (tables_of_tree tree.now).variables ≡ true }
+{}
+
+/// The names of interface signals and of channels in the tables are names, and no two of them are equal.
+pub fn sound_interface(tree: &Tree<Name, Raw<Name>>)
+    requires sound { failures_of (names_of_tree tree.now) ≡ [] }
+    requires named { list_all is_name (map port_name tree.now.ports) ≡ true }
+    ensures { has_names (tables_of_tree tree.now) ≡ true }
+{}
