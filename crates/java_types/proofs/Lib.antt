@@ -1,0 +1,5 @@
+pub mod EntryLemmas
+pub mod CheckLemmas
+pub mod ListLemmas
+pub mod ExpressionLemmas
+pub mod FormLemmas

@@ -1,0 +1,6 @@
+pub mod Checks
+pub mod Spellings
+pub mod Operands
+pub mod Conversions
+pub mod TypedTrees
+pub mod Typings

@@ -1,0 +1,25 @@
+//! The kinds of expressions: a tree whose expressions have kinds, or the first thing that is wrong with them.
+#![tactic(auto)]
+
+mod conversions;
+mod expressions;
+mod failure;
+mod lists;
+mod operand;
+mod operators;
+mod ports;
+mod rows;
+mod statements;
+mod table_copies;
+mod tables;
+mod test_copies;
+mod trees;
+mod typing;
+
+pub use failure::{TypeError, TypeFailure};
+pub use rows::{small_conversions, small_operators, small_signals};
+pub use trees::Typed;
+pub use typing::typed;
+
+#[cfg(test)]
+mod tests;
