@@ -13,8 +13,12 @@ pub mod StaticRuleLemmas
 pub mod StatementLemmas
 pub mod SourceLemmas
 pub mod ProgramLemmas
+pub mod FailureLemmas
+pub mod KindLemmas
+pub mod TypedSources
 pub mod RefusalLemmas
 pub mod LoweredTrees
+pub mod NamedTrees
 pub mod SmallSources
 pub mod SmallPrograms
 pub mod UnacceptedSources

@@ -122,13 +122,6 @@ pub halt_unmade : (i : Interface) (at : ℕ) → stmt_term i (stmt_at at form.Ha
 unfolding form_made
 halt_unmade i at = made_at i at form.Halt (form_term i Form-F.Halt) (ap (form_made i) (sym rolls-Halt) ∙ fold-roll-Form Name (Raw Name) (ℕ → Option Term) (Option Term) (Option Term) (form_term i) block_layer stmt_layer Form-F.Halt)
 
-pub emit_unmade : (i : Interface) (at name_at : ℕ) (name : Name) → number_of i.signals name.text ≡ None → stmt_term i (stmt_at at (form.Emit name_at name None)) ≡ None
-unfolding form_made
-emit_unmade i at name_at name h =
-    made_at i at (form.Emit name_at name None) (λ a. emit_term i a name.text)
-    (ap (form_made i) (sym (rolls-Emit name_at name None)) ∙ fold-roll-Form Name (Raw Name) (ℕ → Option Term) (Option Term) (Option Term) (form_term i) block_layer stmt_layer (Form-F.Emit name_at name None))
-    ∙ ap (option_map (λ n. term_at at (term_form.Emit n None))) h
-
 pub block_unmade : (i : Interface) (at : ℕ) (s : SourceStmt) (ss : List SourceStmt) → stmt_term i s ≡ None → block_term i (block_at at (s ∷ ss)) ≡ None
 block_unmade i at s ss h = fold-roll-Block Name (Raw Name) (ℕ → Option Term) (Option Term) (Option Term) (form_term i) block_layer stmt_layer (record { at = at; statements = s ∷ ss }) ∙ ap (λ o. option_map (block_of at) (all_some (o ∷ map (stmt_term i) ss))) h
 

@@ -1,5 +1,5 @@
 -- A source is refused for one reason at most, and no accepted source is refused.
-use Rattle.std.proofs.Common.{◌≡◌, ℕ, true, false, List, [], ◌∷◌, ◌++◌, length, ap, refl, sym, ◌∙◌, subst, append_assoc, append-nil, Some}
+use Rattle.std.proofs.Common.{◌≡◌, ℕ, true, false, List, [], ◌∷◌, ◌++◌, length, ap, refl, sym, ◌∙◌, subst, append_assoc, append-nil, Some, None}
 use Rattle.std.specs.Prelude.{Option}
 use Rattle.sj_lexer.specs.declared.token.Token.{Token}
 use Rattle.sj_lexer.specs.declared.head.Fault.{Fault}
@@ -11,11 +11,18 @@ use Rattle.sj_grammar.specs.definitions.Limits.{ReadsTo, IsDeep, IsTooDeepBehind
 use Rattle.sj_grammar.specs.definitions.Sentences.{AreProgram, BeginProgram}
 use Rattle.expr_parser.specs.definitions.Longest.{IsLongest, place_of}
 use Rattle.stmt_parser.specs.definitions.Parsing.{IsTreeOf, IsRefused, IsTooDeep, SyntaxAt, TooDeepAt}
+use Rattle.sj_names.specs.declared.failure.Failure.{Failure}
+use Rattle.sj_names.specs.definitions.Mentions.{names_of_tree}
+use Rattle.sj_names.specs.definitions.Failures.{failures_of, IsLeast}
 use Rattle.sj_accept.specs.declared.refusal.Refusal.{Refusal}
 use Rattle.sj_accept.specs.declared.refusal.Refusal.TheVariants as refusal
+use Rattle.java_types.specs.declared.failure.TypeFailure.{TypeFailure}
+use Rattle.java_types.specs.definitions.Checks.{first_of}
 use Rattle.sj_accept.specs.definitions.Sources.{SourceTree, IsParsed}
+use Rattle.sj_accept.specs.definitions.Kinds.{kind_failures}
 use Rattle.sj_accept.specs.definitions.Accepted.{IsAccepted}
 use Rattle.sj_accept.specs.definitions.Refusals.{IsUnaccepted, IsRefusedFor}
+use Rattle.sj_accept.proofs.FailureLemmas.{one_least, none_is_least}
 
 -- two ways to cut one list
 
@@ -145,10 +152,14 @@ EitherReading = (source : List ℕ) (ts : List Token) (reason : Fault) (at : ℕ
 abbrev OneFault : Type 0
 OneFault = (source : List ℕ) (f g : Fault) (at place : ℕ) → readings.IsRefused source f at → readings.IsRefused source g place → (f ≡ g) × (at ≡ place)
 
+abbrev OneTree : Type 0
+OneTree = (source : List ℕ) (t u : SourceTree) → IsParsed source t → IsParsed source u → t ≡ u
+
 pub record Laws : Type 0 where
   pub tokens : OneReading
   pub either : EitherReading
   pub fault : OneFault
+  pub tree : OneTree
 
 -- a source with tokens
 at_tokens : (l : Laws) (source : List ℕ) (ts us : List Token) (place : ℕ) → readings.AreTokens source ts → readings.AreTokens source us → SyntaxAt source us place → SyntaxAt source ts place
@@ -167,12 +178,14 @@ of_fault fault.BadByte at = refusal.BadByte at
 of_fault fault.BadNumber at = refusal.BadNumber at
 of_fault fault.OpenComment at = refusal.OpenComment at
 
--- what a refusal tells of the tokens
+-- what a refusal tells of the tokens and of the tree
 data Told (source : List ℕ) (r : Refusal) : Type 0 where
   ByFault : (f : Fault) (at : ℕ) → readings.IsRefused source f at → of_fault f at ≡ r → Told source r
   BySyntax : (tokens : List Token) (at : ℕ) → readings.AreTokens source tokens → SyntaxAt source tokens at → refusal.Syntax at ≡ r → Told source r
   ByDepth : (tokens : List Token) (at : ℕ) → readings.AreTokens source tokens → TooDeepAt source tokens at → refusal.TooDeep at ≡ r → Told source r
-  ByTree : (tree : SourceTree) → IsParsed source tree → refusal.Later ≡ r → Told source r
+  ByName : (tree : SourceTree) (f : Failure) → IsParsed source tree → IsLeast (failures_of (names_of_tree tree)) f → refusal.Names f ≡ r → Told source r
+  ByKind : (tree : SourceTree) (f : TypeFailure) → IsParsed source tree → failures_of (names_of_tree tree) ≡ [] → first_of (kind_failures tree) ≡ Some f → refusal.Kinds f ≡ r → Told source r
+  ByTree : (tree : SourceTree) → IsParsed source tree → failures_of (names_of_tree tree) ≡ [] → kind_failures tree ≡ [] → refusal.Later ≡ r → Told source r
 
 told : (source : List ℕ) (r : Refusal) → IsRefusedFor source r → Told source r
 unfolding of_fault
@@ -181,36 +194,80 @@ told source (refusal.BadNumber at) h = ByFault fault.BadNumber at h refl
 told source (refusal.OpenComment at) h = ByFault fault.OpenComment at h refl
 told source (refusal.Syntax at) h = BySyntax h.tokens at h.are h.at refl
 told source (refusal.TooDeep at) h = ByDepth h.tokens at h.are h.at refl
-told source refusal.Later h = ByTree h.tree h.parsed refl
+told source (refusal.Names f) h = ByName h.tree f h.parsed h.least refl
+told source (refusal.Kinds f) h = ByKind h.tree f h.parsed h.named h.first refl
+told source refusal.Later h = ByTree h.tree h.parsed h.named h.typed refl
+
+-- the names of one tree
+
+one_name : (l : Laws) (source : List ℕ) (t u : SourceTree) (f g : Failure) → IsParsed source t → IsParsed source u → IsLeast (failures_of (names_of_tree t)) f → IsLeast (failures_of (names_of_tree u)) g → f ≡ g
+one_name l source t u f g a b c d = one_least (failures_of (names_of_tree t)) f g c (subst (λ x. IsLeast (failures_of (names_of_tree x)) g) (l.tree source u t b a) d)
+
+name_or_none : (l : Laws) (source : List ℕ) (t u : SourceTree) (f : Failure) → IsParsed source t → IsParsed source u → IsLeast (failures_of (names_of_tree t)) f → failures_of (names_of_tree u) ≡ [] → ⊥
+name_or_none l source t u f a b c n = none_is_least (failures_of (names_of_tree t)) f (ap (λ x. failures_of (names_of_tree x)) (l.tree source t u a b) ∙ n) c
+
+-- the kinds of one tree
+
+one_kind : (l : Laws) (source : List ℕ) (t u : SourceTree) (f g : TypeFailure) → IsParsed source t → IsParsed source u → first_of (kind_failures t) ≡ Some f → first_of (kind_failures u) ≡ Some g → f ≡ g
+one_kind l source t u f g a b c d = same (sym c ∙ ap (λ x. first_of (kind_failures x)) (l.tree source t u a b) ∙ d)
+  where
+    same : Some f ≡ Some g → f ≡ g
+    same h = cc
+
+kind_or_none : (l : Laws) (source : List ℕ) (t u : SourceTree) (f : TypeFailure) → IsParsed source t → IsParsed source u → first_of (kind_failures t) ≡ Some f → kind_failures u ≡ [] → ⊥
+kind_or_none l source t u f a b c n = apart (sym c ∙ ap (λ x. first_of (kind_failures x)) (l.tree source t u a b) ∙ ap first_of n)
+  where
+    apart : Some f ≡ None → ⊥
+    apart h = cc
 
 one_told : (l : Laws) (source : List ℕ) (r s : Refusal) → Told source r → Told source s → r ≡ s
 one_told l source r s (ByFault f at a e) (ByFault g place b h) = sym e ∙ one_fault l source f g at place of_fault a b ∙ h
 one_told l source r s (ByFault f at a e) (BySyntax ts place b d h) = absurd (l.either source ts f at b a)
 one_told l source r s (ByFault f at a e) (ByDepth ts place b d h) = absurd (l.either source ts f at b a)
-one_told l source r s (ByFault f at a e) (ByTree t b h) = absurd (l.either source b.tokens f at b.are a)
+one_told l source r s (ByFault f at a e) (ByName t g b d h) = absurd (l.either source b.tokens f at b.are a)
+one_told l source r s (ByFault f at a e) (ByKind t g b n d h) = absurd (l.either source b.tokens f at b.are a)
+one_told l source r s (ByFault f at a e) (ByTree t b n m h) = absurd (l.either source b.tokens f at b.are a)
 one_told l source r s (BySyntax ts at a c e) (ByFault g place b h) = absurd (l.either source ts g place a b)
 one_told l source r s (BySyntax ts at a c e) (BySyntax us place b d h) = sym e ∙ ap refusal.Syntax (same_syntax source ts at place c (at_tokens l source ts us place a b d)) ∙ h
 one_told l source r s (BySyntax ts at a c e) (ByDepth us place b d h) = absurd (syntax_not_deep source ts at place c (deep_at_tokens l source ts us place a b d))
-one_told l source r s (BySyntax ts at a c e) (ByTree t b h) = absurd (tree_no_syntax source b.tokens t at b.parsed (at_tokens l source b.tokens ts at b.are a c))
+one_told l source r s (BySyntax ts at a c e) (ByName t g b d h) = absurd (tree_no_syntax source b.tokens t at b.parsed (at_tokens l source b.tokens ts at b.are a c))
+one_told l source r s (BySyntax ts at a c e) (ByKind t g b n d h) = absurd (tree_no_syntax source b.tokens t at b.parsed (at_tokens l source b.tokens ts at b.are a c))
+one_told l source r s (BySyntax ts at a c e) (ByTree t b n m h) = absurd (tree_no_syntax source b.tokens t at b.parsed (at_tokens l source b.tokens ts at b.are a c))
 one_told l source r s (ByDepth ts at a c e) (ByFault g place b h) = absurd (l.either source ts g place a b)
 one_told l source r s (ByDepth ts at a c e) (BySyntax us place b d h) = absurd (syntax_not_deep source us place at d (deep_at_tokens l source us ts at b a c))
 one_told l source r s (ByDepth ts at a c e) (ByDepth us place b d h) = sym e ∙ ap refusal.TooDeep (same_deep source ts at place c (deep_at_tokens l source ts us place a b d)) ∙ h
-one_told l source r s (ByDepth ts at a c e) (ByTree t b h) = absurd (tree_not_deep source b.tokens t at b.parsed (deep_at_tokens l source b.tokens ts at b.are a c))
-one_told l source r s (ByTree t a e) (ByFault g place b h) = absurd (l.either source a.tokens g place a.are b)
-one_told l source r s (ByTree t a e) (BySyntax us place b d h) = absurd (tree_no_syntax source a.tokens t place a.parsed (at_tokens l source a.tokens us place a.are b d))
-one_told l source r s (ByTree t a e) (ByDepth us place b d h) = absurd (tree_not_deep source a.tokens t place a.parsed (deep_at_tokens l source a.tokens us place a.are b d))
-one_told l source r s (ByTree t a e) (ByTree u b h) = sym e ∙ h
+one_told l source r s (ByDepth ts at a c e) (ByName t g b d h) = absurd (tree_not_deep source b.tokens t at b.parsed (deep_at_tokens l source b.tokens ts at b.are a c))
+one_told l source r s (ByDepth ts at a c e) (ByKind t g b n d h) = absurd (tree_not_deep source b.tokens t at b.parsed (deep_at_tokens l source b.tokens ts at b.are a c))
+one_told l source r s (ByDepth ts at a c e) (ByTree t b n m h) = absurd (tree_not_deep source b.tokens t at b.parsed (deep_at_tokens l source b.tokens ts at b.are a c))
+one_told l source r s (ByName t f a c e) (ByFault g place b h) = absurd (l.either source a.tokens g place a.are b)
+one_told l source r s (ByName t f a c e) (BySyntax us place b d h) = absurd (tree_no_syntax source a.tokens t place a.parsed (at_tokens l source a.tokens us place a.are b d))
+one_told l source r s (ByName t f a c e) (ByDepth us place b d h) = absurd (tree_not_deep source a.tokens t place a.parsed (deep_at_tokens l source a.tokens us place a.are b d))
+one_told l source r s (ByName t f a c e) (ByName u g b d h) = sym e ∙ ap refusal.Names (one_name l source t u f g a b c d) ∙ h
+one_told l source r s (ByName t f a c e) (ByKind u g b n d h) = absurd (name_or_none l source t u f a b c n)
+one_told l source r s (ByName t f a c e) (ByTree u b n m h) = absurd (name_or_none l source t u f a b c n)
+one_told l source r s (ByKind t f a n c e) (ByFault g place b h) = absurd (l.either source a.tokens g place a.are b)
+one_told l source r s (ByKind t f a n c e) (BySyntax us place b d h) = absurd (tree_no_syntax source a.tokens t place a.parsed (at_tokens l source a.tokens us place a.are b d))
+one_told l source r s (ByKind t f a n c e) (ByDepth us place b d h) = absurd (tree_not_deep source a.tokens t place a.parsed (deep_at_tokens l source a.tokens us place a.are b d))
+one_told l source r s (ByKind t f a n c e) (ByName u g b d h) = absurd (name_or_none l source u t g b a d n)
+one_told l source r s (ByKind t f a n c e) (ByKind u g b m d h) = sym e ∙ ap refusal.Kinds (one_kind l source t u f g a b c d) ∙ h
+one_told l source r s (ByKind t f a n c e) (ByTree u b m o h) = absurd (kind_or_none l source t u f a b c o)
+one_told l source r s (ByTree t a n m e) (ByFault g place b h) = absurd (l.either source a.tokens g place a.are b)
+one_told l source r s (ByTree t a n m e) (BySyntax us place b d h) = absurd (tree_no_syntax source a.tokens t place a.parsed (at_tokens l source a.tokens us place a.are b d))
+one_told l source r s (ByTree t a n m e) (ByDepth us place b d h) = absurd (tree_not_deep source a.tokens t place a.parsed (deep_at_tokens l source a.tokens us place a.are b d))
+one_told l source r s (ByTree t a n m e) (ByName u g b d h) = absurd (name_or_none l source u t g b a d n)
+one_told l source r s (ByTree t a n m e) (ByKind u g b o d h) = absurd (kind_or_none l source u t g b a d m)
+one_told l source r s (ByTree t a n m e) (ByTree u b o p h) = sym e ∙ h
 
 pub one_refusal : Laws → (source : List ℕ) (r s : Refusal) → IsRefusedFor source r → IsRefusedFor source s → r ≡ s
 one_refusal l source r s a b = one_told l source r s (told source r a) (told source s b)
 
 -- no accepted source
 
-tree_or_refused : (l : Laws) (source : List ℕ) (tree : SourceTree) (r : Refusal) → IsParsed source tree → Told source r → refusal.Later ≡ r
-tree_or_refused l source tree r p t = one_told l source refusal.Later r (ByTree tree p refl) t
+tree_or_refused : (l : Laws) (source : List ℕ) (tree : SourceTree) (r : Refusal) → IsParsed source tree → failures_of (names_of_tree tree) ≡ [] → kind_failures tree ≡ [] → Told source r → refusal.Later ≡ r
+tree_or_refused l source tree r p n k t = one_told l source refusal.Later r (ByTree tree p n k refl) t
 
 pub not_accepted : Laws → (source : List ℕ) (r : Refusal) → IsRefusedFor source r → IsAccepted source → ⊥
-not_accepted l source r h a = (later (subst (IsRefusedFor source) (sym (tree_or_refused l source a.source.tree r a.source.parsed (told source r h))) h)).none a.program a.source
+not_accepted l source r h a = (later (subst (IsRefusedFor source) (sym (tree_or_refused l source a.source.tree r a.source.parsed a.source.named a.source.typed (told source r h))) h)).none a.program a.source
   where
     later : IsRefusedFor source refusal.Later → IsUnaccepted source
     later x = x

@@ -14,7 +14,11 @@ use Rattle.tick_tree.specs.definitions.Weight.{weight_of}
 use Rattle.sj_ast.specs.declared.name.Name.{Name}
 use Rattle.sj_ast.specs.declared.expression.Raw as raw
 use Rattle.sj_grammar.specs.definitions.Trees.{tree_of}
+use Rattle.sj_names.specs.definitions.Mentions.{names_of_tree}
+use Rattle.sj_names.specs.definitions.DeclaredTables.{tables_of_tree}
+use Rattle.sj_names.specs.definitions.Failures.{failures_of}
 use Rattle.sj_accept.specs.definitions.Sources.{SourceTree, IsParsed}
+use Rattle.sj_accept.specs.definitions.Kinds.{kind_failures}
 use Rattle.sj_accept.specs.definitions.Ports.{port_interface}
 use Rattle.sj_accept.specs.definitions.Lowering.{term_at, int_expression}
 use Rattle.sj_accept.specs.definitions.Programs.{LoweredProgram, program_of, domain_statements, tables_for, emits_of, sends_of, receives_of}
@@ -22,6 +26,8 @@ use Rattle.sj_accept.specs.definitions.Accepted.{KeepsNames, Uses, HasBothEnds, 
 use Rattle.sj_accept.specs.SmallPrograms.{empty, blink, body, looping, second, rendezvous}
 use Rattle.sj_accept.proofs.TermLemmas.{statement-Nothing, statement-Pause, statement-Emit, statement-Receive}
 use Rattle.sj_accept.proofs.LoweredTrees.{lowers_none, literal_number, pause_then, emit_then, send_then, receive_then, while_then, no_block, block_then, program_made, send_is, seq_two, seq_three}
+use Rattle.sj_accept.proofs.TypedSources.{fit_none, pause_fits, emit_fits, send_fits, receive_fits, while_fits, no_block_fits, block_then_fits, scope_of_ports, tree_fits}
+use Rattle.sj_accept.proofs.NamedTrees.{tell_none, pause_tells, emit_tells, send_tells, receive_tells, while_tells, no_block_tells, block_then_tells, tree_tells}
 use Rattle.sj_accept.proofs.SmallSources.{empty_source, empty_sentence, empty_parsed, blink_source, blink_sentence, blink_parsed, loop_source, loop_sentence, loop_parsed, rendezvous_source, rendezvous_sentence, rendezvous_parsed}
 
 -- the rules that a program keeps, whose domains have these statements
@@ -31,11 +37,13 @@ record KeepsAll (p : LoweredProgram) (ps : List Stmt) : Type 0 where
   loops : (d : ℕ) → LoopsWait (get_or ps d Nothing)
   weight : (d : ℕ) → weight_of (get_or ps d Nothing) ≤ 100000
 
-source_of : (bytes : List ℕ) (p : LoweredProgram) (ps : List Stmt) (tree : SourceTree) → length bytes ≤ 1048576 → IsParsed bytes tree → program_of tree ≡ Some p → domain_statements p ≡ ps → KeepsAll p ps → IsSourceOf bytes p
-source_of bytes p ps tree size parsed is statements keeps = record {
+source_of : (bytes : List ℕ) (p : LoweredProgram) (ps : List Stmt) (tree : SourceTree) → length bytes ≤ 1048576 → IsParsed bytes tree → failures_of (names_of_tree tree) ≡ [] → kind_failures tree ≡ [] → program_of tree ≡ Some p → domain_statements p ≡ ps → KeepsAll p ps → IsSourceOf bytes p
+source_of bytes p ps tree size parsed named typed is statements keeps = record {
   size = size;
   tree = tree;
   parsed = parsed;
+  named = named;
+  typed = typed;
   is = is;
   rules = record {
     ports = record { names = keeps.names; owners = subst (KeepsOwners (port_interface p.ports)) (sym statements) keeps.owners };
@@ -82,8 +90,14 @@ empty_statements = ap (λ p. p ∷ []) (statement-Nothing (term_at 18 form.Nothi
 empty_program : program_of (tree_of empty_source empty_sentence) ≡ Some empty
 empty_program = program_made (tree_of empty_source empty_sentence) empty refl (let i = port_interface empty.ports in block_then i 18 _ _ _ _ (lowers_none i) (no_block i))
 
+empty_named : failures_of (names_of_tree (tree_of empty_source empty_sentence)) ≡ []
+empty_named = tree_tells (tree_of empty_source empty_sentence) _ (block_then_tells 18 _ _ _ _ tell_none no_block_tells)
+
+empty_typed : kind_failures (tree_of empty_source empty_sentence) ≡ []
+empty_typed = let t = tables_of_tree (tree_of empty_source empty_sentence) in let s = scope_of_ports (tree_of empty_source empty_sentence) in tree_fits (tree_of empty_source empty_sentence) refl (block_then_fits t s 18 _ _ refl (fit_none t s) (no_block_fits t s))
+
 pub empty_is_source : IsSourceOf empty_source empty
-empty_is_source = source_of empty_source empty (Nothing ∷ []) (tree_of empty_source empty_sentence) (omega arith) empty_parsed empty_program empty_statements (record {
+empty_is_source = source_of empty_source empty (Nothing ∷ []) (tree_of empty_source empty_sentence) (omega arith) empty_parsed empty_named empty_typed empty_program empty_statements (record {
   names = record { distinct = refl; channels = omega arith; domains = omega arith };
   owners = record { emitters = λ s d e h k. one_owner emits_of Nothing s d e refl h k; few = λ d l. omega arith; joined = λ c l. absurd (omega arith) };
   loops = one_loops Nothing (record { loops = tt; weight = omega arith });
@@ -107,8 +121,16 @@ blink_program =
     (let i = port_interface blink.ports in
     block_then i 34 _ _ _ _ (emit_then i 35 40 (name_at 40 (codes "A")) 0 _ _ refl (pause_then i 42 _ _ (emit_then i 48 53 (name_at 53 (codes "A")) 0 _ _ refl (lowers_none i)))) (no_block i))
 
+blink_named : failures_of (names_of_tree (tree_of blink_source blink_sentence)) ≡ []
+blink_named =
+    tree_tells (tree_of blink_source blink_sentence) _
+    (block_then_tells 34 _ _ _ _ (emit_tells 35 40 (name_at 40 (codes "A")) _ _ (pause_tells 42 _ _ (emit_tells 48 53 (name_at 53 (codes "A")) _ _ tell_none))) no_block_tells)
+
+blink_typed : kind_failures (tree_of blink_source blink_sentence) ≡ []
+blink_typed = let t = tables_of_tree (tree_of blink_source blink_sentence) in let s = scope_of_ports (tree_of blink_source blink_sentence) in tree_fits (tree_of blink_source blink_sentence) refl (block_then_fits t s 34 _ _ refl (emit_fits t s 35 40 (name_at 40 (codes "A")) _ refl (pause_fits t s 42 _ (emit_fits t s 48 53 (name_at 53 (codes "A")) _ refl (fit_none t s)))) (no_block_fits t s))
+
 pub blink_is_source : IsSourceOf blink_source blink
-blink_is_source = source_of blink_source blink (blinks ∷ []) (tree_of blink_source blink_sentence) (omega arith) blink_parsed blink_program blink_statements (record {
+blink_is_source = source_of blink_source blink (blinks ∷ []) (tree_of blink_source blink_sentence) (omega arith) blink_parsed blink_named blink_typed blink_program blink_statements (record {
   names = record { distinct = refl; channels = omega arith; domains = omega arith };
   owners = record {
     emitters = λ s d e h k. one_owner emits_of blinks s d e refl h k;
@@ -143,8 +165,18 @@ loop_program =
     (while_then i 51 62 _ _ _ _ (emit_then i 63 68 (name_at 68 (codes "A")) 0 _ _ refl (pause_then i 70 _ _ (emit_then i 76 81 (name_at 81 (codes "B")) 1 _ _ refl (lowers_none i)))) (lowers_none i))
     (no_block i))
 
+loop_named : failures_of (names_of_tree (tree_of loop_source loop_sentence)) ≡ []
+loop_named =
+    tree_tells (tree_of loop_source loop_sentence) _
+    (block_then_tells 50 _ _ _ _
+    (while_tells 51 62 _ _ _ _ (emit_tells 63 68 (name_at 68 (codes "A")) _ _ (pause_tells 70 _ _ (emit_tells 76 81 (name_at 81 (codes "B")) _ _ tell_none))) tell_none)
+    no_block_tells)
+
+loop_typed : kind_failures (tree_of loop_source loop_sentence) ≡ []
+loop_typed = let t = tables_of_tree (tree_of loop_source loop_sentence) in let s = scope_of_ports (tree_of loop_source loop_sentence) in tree_fits (tree_of loop_source loop_sentence) refl (block_then_fits t s 50 _ _ refl (while_fits t s 51 62 _ _ refl (emit_fits t s 63 68 (name_at 68 (codes "A")) _ refl (pause_fits t s 70 _ (emit_fits t s 76 81 (name_at 81 (codes "B")) _ refl (fit_none t s)))) (fit_none t s)) (no_block_fits t s))
+
 pub loop_is_source : IsSourceOf loop_source looping
-loop_is_source = source_of loop_source looping (loops ∷ []) (tree_of loop_source loop_sentence) (omega arith) loop_parsed loop_program loop_statements (record {
+loop_is_source = source_of loop_source looping (loops ∷ []) (tree_of loop_source loop_sentence) (omega arith) loop_parsed loop_named loop_typed loop_program loop_statements (record {
   names = record { distinct = refl; channels = omega arith; domains = omega arith };
   owners = record {
     emitters = λ s d e h k. one_owner emits_of loops s d e refl h k;
@@ -172,6 +204,15 @@ rendezvous_program =
     (let i = port_interface rendezvous.ports in
     block_then i 64 _ _ _ _ (send_then i 65 70 (name_at 70 (codes "C")) (raw.Literal 72 (record { kind = Int; number = pos 5 })) 0 (pos 5) _ _ refl (literal_number 72 (pos 5)) (emit_then i 76 81 (name_at 81 (codes "D")) 0 _ _ refl (lowers_none i)))
     (block_then i 86 _ _ _ _ (receive_then i 87 95 (name_at 95 (codes "C")) 0 _ _ refl (emit_then i 98 103 (name_at 103 (codes "B")) 1 _ _ refl (lowers_none i))) (no_block i)))
+
+rendezvous_named : failures_of (names_of_tree (tree_of rendezvous_source rendezvous_sentence)) ≡ []
+rendezvous_named =
+    tree_tells (tree_of rendezvous_source rendezvous_sentence) _
+    (block_then_tells 64 _ _ _ _ (send_tells 65 70 (name_at 70 (codes "C")) 72 (record { kind = Int; number = pos 5 }) _ _ (emit_tells 76 81 (name_at 81 (codes "D")) _ _ tell_none))
+    (block_then_tells 86 _ _ _ _ (receive_tells 87 95 (name_at 95 (codes "C")) _ _ (emit_tells 98 103 (name_at 103 (codes "B")) _ _ tell_none)) no_block_tells))
+
+rendezvous_typed : kind_failures (tree_of rendezvous_source rendezvous_sentence) ≡ []
+rendezvous_typed = let t = tables_of_tree (tree_of rendezvous_source rendezvous_sentence) in let s = scope_of_ports (tree_of rendezvous_source rendezvous_sentence) in tree_fits (tree_of rendezvous_source rendezvous_sentence) refl (block_then_fits t s 64 _ _ refl (send_fits t s 65 70 (name_at 70 (codes "C")) 72 (record { kind = Int; number = pos 5 }) _ refl refl (emit_fits t s 76 81 (name_at 81 (codes "D")) _ refl (fit_none t s))) (block_then_fits t s 86 _ _ refl (receive_fits t s 87 95 (name_at 95 (codes "C")) _ (emit_fits t s 98 103 (name_at 103 (codes "B")) _ refl (fit_none t s))) (no_block_fits t s)))
 
 one_of : (n s : ℕ) → stands_in s (n ∷ []) ≡ true → s ≡ n
 one_of n s h = grind (arith, nat_tests)
@@ -215,7 +256,7 @@ weigh (suc zero) = omega arith
 weigh (suc (suc d)) = omega arith
 
 pub rendezvous_is_source : IsSourceOf rendezvous_source rendezvous
-rendezvous_is_source = source_of rendezvous_source rendezvous two_domains (tree_of rendezvous_source rendezvous_sentence) (omega arith) rendezvous_parsed rendezvous_program rendezvous_statements (record {
+rendezvous_is_source = source_of rendezvous_source rendezvous two_domains (tree_of rendezvous_source rendezvous_sentence) (omega arith) rendezvous_parsed rendezvous_named rendezvous_typed rendezvous_program rendezvous_statements (record {
   names = record { distinct = refl; channels = omega arith; domains = omega arith };
   owners = record { emitters = one_emitter; few = few_each; joined = channel_joins };
   loops = wait;

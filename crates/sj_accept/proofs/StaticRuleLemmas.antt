@@ -9,10 +9,13 @@ use Rattle.kernel_terms.specs.Built.{is_built}
 use Rattle.kernel_terms.specs.Statements.{Stmt, Nothing, statement}
 use Rattle.kernel_terms.specs.MayEnd.{LoopsWait}
 use Rattle.tick_tree.specs.definitions.Weight.{weight_of, most_weight, capped}
+use Rattle.sj_names.specs.definitions.Mentions.{names_of_tree}
+use Rattle.sj_names.specs.definitions.Failures.{failures_of}
 use Rattle.sj_accept.specs.BuiltTerms.{AreBuilt}
 use Rattle.sj_accept.specs.StaticRules.{AllKeepStaticRules}
 use Rattle.sj_accept.specs.Lowered.{IsSystemOf, HasNoSystem}
 use Rattle.sj_accept.specs.definitions.Sources.{SourceTree, IsParsed}
+use Rattle.sj_accept.specs.definitions.Kinds.{kind_failures}
 use Rattle.sj_accept.specs.definitions.Ports.{Interface}
 use Rattle.sj_accept.specs.definitions.Programs.{LoweredProgram, program_of, domain_statements}
 use Rattle.sj_accept.specs.definitions.Systems.{Accepts}
@@ -48,22 +51,26 @@ pub ruleset rules_by_weight = (capped_within)
 abbrev OneTree : Type 0
 OneTree = (source : List ℕ) (t u : SourceTree) → IsParsed source t → IsParsed source u → t ≡ u
 
-pub unaccepted : OneTree → (source : List ℕ) (tree : SourceTree) → length source ≤ most_source_bytes → IsParsed source tree → HasNoSystem tree → IsUnaccepted source
-unaccepted once source tree few t n = record {
+pub unaccepted : OneTree → (source : List ℕ) (tree : SourceTree) → length source ≤ most_source_bytes → IsParsed source tree → failures_of (names_of_tree tree) ≡ [] → kind_failures tree ≡ [] → HasNoSystem tree → IsUnaccepted source
+unaccepted once source tree few t f k n = record {
   size = few;
   tree = tree;
   parsed = t;
+  named = f;
+  typed = k;
   none = λ p s. n.none p (ap program_of (once source tree s.tree t s.parsed) ∙ s.is) s.rules.ports;
 }
 
 same_program : (p q : LoweredProgram) → Some p ≡ Some q → p ≡ q
 same_program p q h = cc
 
-pub breaks_rules : OneTree → (source : List ℕ) (tree : SourceTree) (system : System) → length source ≤ most_source_bytes → IsParsed source tree → IsSystemOf tree system → (AllKeepStaticRules (map statement (domains_of system)) → ⊥) → IsUnaccepted source
-breaks_rules once source tree system few t r broken = record {
+pub breaks_rules : OneTree → (source : List ℕ) (tree : SourceTree) (system : System) → length source ≤ most_source_bytes → IsParsed source tree → failures_of (names_of_tree tree) ≡ [] → kind_failures tree ≡ [] → IsSystemOf tree system → (AllKeepStaticRules (map statement (domains_of system)) → ⊥) → IsUnaccepted source
+breaks_rules once source tree system few t f k r broken = record {
   size = few;
   tree = tree;
   parsed = t;
+  named = f;
+  typed = k;
   none = λ p s.
       let e = same_program p r.program (sym s.is ∙ ap program_of (once source s.tree tree s.parsed t) ∙ r.is) in
       let d : domain_statements p ≡ map statement (domains_of system) = ap domain_statements e ∙ ap (map statement) (sym r.domains) in
@@ -80,8 +87,8 @@ all_forms : (i : Interface) (ts : List Term) → AreBuilt i ts → list_all is_b
 all_forms i [] b = refl
 all_forms i (t ∷ ts) b = both (is_built t) (list_all is_built ts) b.0.forms (all_forms i ts b.1)
 
-pub accepts : (source : List ℕ) (tree : SourceTree) (system : System) → length source ≤ most_source_bytes → IsParsed source tree → IsSystemOf tree system → AllKeepStaticRules (map statement (domains_of system)) → Accepts source system
-accepts source tree system few t r k =
+pub accepts : (source : List ℕ) (tree : SourceTree) (system : System) → length source ≤ most_source_bytes → IsParsed source tree → failures_of (names_of_tree tree) ≡ [] → kind_failures tree ≡ [] → IsSystemOf tree system → AllKeepStaticRules (map statement (domains_of system)) → Accepts source system
+accepts source tree system few t f g r k =
     let rules = subst (λ ts. AllKeepStaticRules (map statement ts)) r.domains k in
     record {
       program = r.program;
@@ -89,6 +96,8 @@ accepts source tree system few t r k =
         size = few;
         tree = tree;
         parsed = t;
+        named = f;
+        typed = g;
         is = r.is;
         rules = record { ports = r.rules; loops = loops_at (domain_statements r.program) rules; weight = weight_at (domain_statements r.program) rules };
       };

@@ -1,11 +1,9 @@
 -- Small sources that are programs of the grammar, and are refused.
-use Rattle.std.proofs.Common.{◌≡◌, ℕ, ◌≤◌, true, false, List, [], ◌∷◌, length, Some, None, refl, sym, ap, ◌∙◌, subst, arith, append-nil}
-use Rattle.std.specs.Prelude.{Option, codes}
-use Rattle.java_values.specs.Names.{are_distinct}
+use Rattle.std.proofs.Common.{◌≡◌, ℕ, ◌≤◌, true, false, List, [], ◌∷◌, length, Some, None, inl, refl, sym, ap, ◌∙◌, subst, arith, append-nil}
+use Rattle.std.specs.Prelude.{codes}
 use Rattle.kernel_terms.specs.declared.term.Form as term_form
 use Rattle.kernel_terms.specs.Statements.{Nothing, Loop, statement}
 use Rattle.kernel_terms.specs.MayEnd.{LoopsWait}
-use Rattle.kernel_terms.specs.declared.term.Term.{Term}
 use Rattle.kernel_terms.proofs.Layers.{statement-Loop}
 use Rattle.sj_lexer.specs.declared.token.Token.{Token}
 use Rattle.sj_ast.specs.declared.port.Direction.TheVariants as direction
@@ -17,17 +15,24 @@ use Rattle.sj_grammar.specs.definitions.Machine.{Symbol, program}
 use Rattle.sj_grammar.specs.definitions.Walks.{Ended, walk}
 use Rattle.sj_grammar.specs.definitions.Limits.{IsWithin, Tells, Halts}
 use Rattle.sj_grammar.proofs.SourcePieces.{are_all, tokens_of, token_in, are_tokens}
+use Rattle.sj_names.specs.declared.failure.Failure.{Failure}
+use Rattle.sj_names.specs.declared.failure.Fault.TheVariants.{Unknown, Twice}
+use Rattle.sj_names.specs.definitions.Mentions.{names_of_tree}
+use Rattle.sj_names.specs.definitions.DeclaredTables.{tables_of_tree}
+use Rattle.sj_names.specs.definitions.Failures.{failure_at, failures_of, IsLeast}
 use Rattle.sj_accept.specs.Optional.{all_some}
 use Rattle.sj_accept.specs.definitions.Sources.{SourceTree, IsParsed}
-use Rattle.sj_accept.specs.definitions.Ports as ports
-use Rattle.sj_accept.specs.definitions.Ports.{BuiltPort, port_names, port_interface}
+use Rattle.sj_accept.specs.definitions.Kinds.{kind_failures}
+use Rattle.sj_accept.specs.definitions.Ports.{port_interface}
 use Rattle.sj_accept.specs.definitions.Lowering.{term_at, block_of}
 use Rattle.sj_accept.specs.definitions.Programs as programs
 use Rattle.sj_accept.specs.definitions.Programs.{program_of, with_terms, domain_statements}
 use Rattle.sj_accept.specs.definitions.Accepted.{KeepsRules}
-use Rattle.sj_accept.specs.definitions.Refusals.{IsUnaccepted}
+use Rattle.sj_accept.specs.definitions.Refusals.{IsUnaccepted, FailsByName}
 use Rattle.sj_accept.proofs.TermLemmas.{statement-Nothing}
-use Rattle.sj_accept.proofs.LoweredTrees.{lowers_none, while_then, no_block, block_then, program_made, halt_unmade, emit_unmade, block_unmade}
+use Rattle.sj_accept.proofs.LoweredTrees.{lowers_none, while_then, no_block, block_then, program_made, halt_unmade, block_unmade}
+use Rattle.sj_accept.proofs.TypedSources.{fit_none, halt_fits, while_fits, no_block_fits, block_then_fits, scope_of_ports, tree_fits}
+use Rattle.sj_accept.proofs.NamedTrees.{tell_none, halt_tells, emit_tells, while_tells, no_block_tells, block_then_tells, tree_tells}
 
 abbrev pub Tell : Type 0
 Tell = (symbols : List Symbol) (levels operators : ℕ) (tokens : List Token) → Tells symbols levels operators tokens (walk symbols levels operators tokens)
@@ -50,20 +55,22 @@ is_parsed tell source s all is printed stops = record {
 }
 
 -- it is refused where its tree has no program that keeps the rules
-unaccepted : OneTree → (source : List ℕ) (tree : SourceTree) → length source ≤ 1048576 → IsParsed source tree → ((p : programs.LoweredProgram) → program_of tree ≡ Some p → KeepsRules p → ⊥) → IsUnaccepted source
-unaccepted one source tree size parsed none = record {
+unaccepted : OneTree → (source : List ℕ) (tree : SourceTree) → length source ≤ 1048576 → IsParsed source tree → failures_of (names_of_tree tree) ≡ [] → kind_failures tree ≡ [] → ((p : programs.LoweredProgram) → program_of tree ≡ Some p → KeepsRules p → ⊥) → IsUnaccepted source
+unaccepted one source tree size parsed named typed none = record {
   size = size;
   tree = tree;
   parsed = parsed;
+  named = named;
+  typed = typed;
   none = λ p s. none p (ap program_of (one source tree s.tree parsed s.parsed) ∙ s.is) s.rules;
 }
 
 no_program : (tree : SourceTree) → program_of tree ≡ None → (p : programs.LoweredProgram) → program_of tree ≡ Some p → KeepsRules p → ⊥
 no_program tree none p is rules = let x : None ≡ Some p = sym none ∙ is in cc
 
-ports_kept : (ps : List BuiltPort) (terms : Option (List Term)) (p : programs.LoweredProgram) → with_terms ps terms ≡ Some p → p.ports ≡ ps
-ports_kept ps None p h = absurd (cc)
-ports_kept ps (Some ts) p h = let x : record { ports = ps; terms = ts } ≡ p = cc in sym (ap (λ (q : programs.LoweredProgram). q.ports) x)
+-- the only failure of a tree's names is the first
+one_failure : (source : List ℕ) (tree : SourceTree) (f : Failure) → IsParsed source tree → failures_of (names_of_tree tree) ≡ f ∷ [] → IsLeast (f ∷ []) f → FailsByName source f
+one_failure source tree f parsed is least = record { tree = tree; parsed = parsed; least = subst (λ fs. IsLeast fs f) (sym is) least }
 
 -- an input
 
@@ -79,8 +86,14 @@ an_input_tree = tree_of an_input_source (an_input_sentence (token_in an_input_so
 an_input_parsed : Tell → IsParsed an_input_source an_input_tree
 an_input_parsed tell = is_parsed tell an_input_source an_input_sentence refl (record { system = refl; open_system = refl; interface = refl; open_ports = refl; ports = ((refl, (refl, refl, refl)), tt); close_ports = refl; first = (refl, tt, refl); others = tt; close_system = refl }) refl refl
 
+an_input_named : failures_of (names_of_tree an_input_tree) ≡ []
+an_input_named = tree_tells an_input_tree _ (block_then_tells 33 _ _ _ _ tell_none no_block_tells)
+
+an_input_typed : kind_failures an_input_tree ≡ []
+an_input_typed = let t = tables_of_tree an_input_tree in let s = scope_of_ports an_input_tree in tree_fits an_input_tree refl (block_then_fits t s 33 _ _ refl (fit_none t s) (no_block_fits t s))
+
 pub an_input : Tell → OneTree → IsUnaccepted an_input_source
-an_input tell one = unaccepted one an_input_source an_input_tree (omega arith) (an_input_parsed tell) (no_program an_input_tree refl)
+an_input tell one = unaccepted one an_input_source an_input_tree (omega arith) (an_input_parsed tell) an_input_named an_input_typed (no_program an_input_tree refl)
 
 -- two signals of one name
 
@@ -96,11 +109,10 @@ one_name_twice_tree = tree_of one_name_twice_source (one_name_twice_sentence (to
 one_name_twice_parsed : Tell → IsParsed one_name_twice_source one_name_twice_tree
 one_name_twice_parsed tell = is_parsed tell one_name_twice_source one_name_twice_sentence refl (record { system = refl; open_system = refl; interface = refl; open_ports = refl; ports = ((refl, (refl, refl, refl)), ((refl, (refl, refl, refl)), tt)); close_ports = refl; first = (refl, tt, refl); others = tt; close_system = refl }) refl refl
 
-pub one_name_twice : Tell → OneTree → IsUnaccepted one_name_twice_source
-one_name_twice tell one = unaccepted one one_name_twice_source one_name_twice_tree (omega arith) (one_name_twice_parsed tell) (λ p is rules.
-    let same = ports_kept (ports.BuiltSignal (codes "A") ∷ ports.BuiltSignal (codes "A") ∷ []) _ p is in
-    let x : false ≡ true = sym (ap (λ (ps : List BuiltPort). are_distinct (port_names ps)) same) ∙ rules.ports.names.distinct in
-    cc)
+pub one_name_twice : Tell → FailsByName one_name_twice_source (failure_at Twice 47)
+one_name_twice tell =
+    one_failure one_name_twice_source one_name_twice_tree (failure_at Twice 47) (one_name_twice_parsed tell)
+    (tree_tells one_name_twice_tree _ (block_then_tells 50 _ _ _ _ tell_none no_block_tells)) (record { one = inl refl; first = refl })
 
 -- a form that isn't built
 
@@ -116,8 +128,14 @@ a_halt_tree = tree_of a_halt_source (a_halt_sentence (token_in a_halt_source))
 a_halt_parsed : Tell → IsParsed a_halt_source a_halt_tree
 a_halt_parsed tell = is_parsed tell a_halt_source a_halt_sentence refl (record { system = refl; open_system = refl; interface = refl; open_ports = refl; ports = tt; close_ports = refl; first = (refl, ((refl, refl), tt), refl); others = tt; close_system = refl }) refl refl
 
+a_halt_named : failures_of (names_of_tree a_halt_tree) ≡ []
+a_halt_named = tree_tells a_halt_tree _ (block_then_tells 18 _ _ _ _ (halt_tells 19 _ _ tell_none) no_block_tells)
+
+a_halt_typed : kind_failures a_halt_tree ≡ []
+a_halt_typed = let t = tables_of_tree a_halt_tree in let s = scope_of_ports a_halt_tree in tree_fits a_halt_tree refl (block_then_fits t s 18 _ _ refl (halt_fits t s 19 _ (fit_none t s)) (no_block_fits t s))
+
 pub a_halt : Tell → OneTree → IsUnaccepted a_halt_source
-a_halt tell one = unaccepted one a_halt_source a_halt_tree (omega arith) (a_halt_parsed tell) (no_program a_halt_tree (ap (λ o. with_terms [] (all_some (o ∷ []))) (block_unmade (port_interface []) 18 _ [] (halt_unmade (port_interface []) 19))))
+a_halt tell one = unaccepted one a_halt_source a_halt_tree (omega arith) (a_halt_parsed tell) a_halt_named a_halt_typed (no_program a_halt_tree (ap (λ o. with_terms [] (all_some (o ∷ []))) (block_unmade (port_interface []) 18 _ [] (halt_unmade (port_interface []) 19))))
 
 -- a name that isn't declared
 
@@ -133,8 +151,11 @@ no_such_signal_tree = tree_of no_such_signal_source (no_such_signal_sentence (to
 no_such_signal_parsed : Tell → IsParsed no_such_signal_source no_such_signal_tree
 no_such_signal_parsed tell = is_parsed tell no_such_signal_source no_such_signal_sentence refl (record { system = refl; open_system = refl; interface = refl; open_ports = refl; ports = tt; close_ports = refl; first = (refl, ((refl, refl, tt, refl), tt), refl); others = tt; close_system = refl }) refl refl
 
-pub no_such_signal : Tell → OneTree → IsUnaccepted no_such_signal_source
-no_such_signal tell one = unaccepted one no_such_signal_source no_such_signal_tree (omega arith) (no_such_signal_parsed tell) (no_program no_such_signal_tree (ap (λ o. with_terms [] (all_some (o ∷ []))) (block_unmade (port_interface []) 18 _ [] (emit_unmade (port_interface []) 19 24 (record { text = codes "A"; at = 24 }) refl))))
+pub no_such_signal : Tell → FailsByName no_such_signal_source (failure_at Unknown 24)
+no_such_signal tell =
+    one_failure no_such_signal_source no_such_signal_tree (failure_at Unknown 24) (no_such_signal_parsed tell)
+    (tree_tells no_such_signal_tree _ (block_then_tells 18 _ _ _ _ (emit_tells 19 24 (record { text = codes "A"; at = 24 }) _ _ tell_none) no_block_tells))
+    (record { one = inl refl; first = refl })
 
 -- a loop whose block ends at once
 
@@ -156,11 +177,17 @@ loop_program = record { ports = []; terms = block_of 18 (term_at 19 (term_form.L
 loop_is : program_of endless_tick_tree ≡ Some loop_program
 loop_is = program_made endless_tick_tree loop_program refl (let i = port_interface [] in block_then i 18 _ _ _ _ (while_then i 19 30 _ _ _ _ (lowers_none i) (lowers_none i)) (no_block i))
 
+endless_tick_named : failures_of (names_of_tree endless_tick_tree) ≡ []
+endless_tick_named = tree_tells endless_tick_tree _ (block_then_tells 18 _ _ _ _ (while_tells 19 30 _ _ _ _ tell_none tell_none) no_block_tells)
+
+endless_tick_typed : kind_failures endless_tick_tree ≡ []
+endless_tick_typed = let t = tables_of_tree endless_tick_tree in let s = scope_of_ports endless_tick_tree in tree_fits endless_tick_tree refl (block_then_fits t s 18 _ _ refl (while_fits t s 19 30 _ _ refl (fit_none t s) (fit_none t s)) (no_block_fits t s))
+
 loop_statement : statement (term_at 19 (term_form.Loop (block_of 30 []))) ≡ Loop Nothing
 loop_statement = statement-Loop (term_at 19 (term_form.Loop (block_of 30 []))) (block_of 30 []) refl ∙ ap Loop (statement-Nothing (block_of 30 []) refl)
 
 pub endless_tick : Tell → OneTree → IsUnaccepted endless_tick_source
-endless_tick tell one = unaccepted one endless_tick_source endless_tick_tree (omega arith) (endless_tick_parsed tell) (λ p is rules.
+endless_tick tell one = unaccepted one endless_tick_source endless_tick_tree (omega arith) (endless_tick_parsed tell) endless_tick_named endless_tick_typed (λ p is rules.
     let same : loop_program ≡ p = let x : Some loop_program ≡ Some p = sym loop_is ∙ is in cc in
     let waits : LoopsWait (statement (term_at 19 (term_form.Loop (block_of 30 [])))) = (subst KeepsRules (sym same) rules).loops 0 in
     let x : true ≡ false = (subst LoopsWait loop_statement waits).0 in

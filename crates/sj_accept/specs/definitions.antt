@@ -1,4 +1,5 @@
 pub mod Sources
+pub mod Kinds
 pub mod Ports
 pub mod Lowering
 pub mod Programs

@@ -37,6 +37,7 @@ pub fn sources_are_one_program()
 pub fn accepted_sources_are_not_refused()
     ensures { (source : List ℕ) (r : Refusal) → IsRefusedFor source r → IsAccepted source → ⊥ }
 {
+    sources_are_one_tree();
     sources_have_one_reading();
 }
 
@@ -44,5 +45,6 @@ pub fn accepted_sources_are_not_refused()
 pub fn sources_have_one_refusal()
     ensures { (source : List ℕ) (r s : Refusal) → IsRefusedFor source r → IsRefusedFor source s → r ≡ s }
 {
+    sources_are_one_tree();
     sources_have_one_reading();
 }

@@ -21,7 +21,7 @@ pub use laws::{
     sources_have_one_refusal,
 };
 pub use refusal::{AcceptError, Refusal};
-pub use rows::{deep_sources, small_refusals, small_sources, unaccepted_sources};
+pub use rows::{deep_sources, misnamed_sources, small_refusals, small_sources, unaccepted_sources};
 pub use source::{MOST_SOURCE_BYTES, accept};
 
 #[cfg(test)]

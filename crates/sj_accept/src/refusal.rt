@@ -1,8 +1,10 @@
+use java_types::TypeFailure;
 use java_values::NoMemory;
+use sj_names::Failure;
 use thiserror::Error;
 
-/// Why a source is not accepted. Places are byte offsets from 0. Tokens are looked at before the grammar, and
-/// the grammar before all other rules.
+/// Why a source is not accepted. Places are byte offsets from 0. Tokens are looked at before the grammar, the grammar
+/// before the names, the names before the kinds, and the kinds before all other rules.
 #[derive(Clone, Copy, Debug, PartialEq, Eq, Error)]
 pub enum Refusal {
     /// A byte that begins no token, a `'` that begins no character, or the 65th byte of a word.
@@ -20,7 +22,13 @@ pub enum Refusal {
     /// A token that opens the 65th level, or is the 257th operator of one expression or test.
     #[error("too deep at {0}")]
     TooDeep(u32),
-    /// A form that isn't built yet, or a rule on names, ports, loops or weight that is broken.
+    /// The first thing that is wrong with the names, by place and then by kind.
+    #[error("a failure of names")]
+    Names(Failure),
+    /// The first thing that is wrong with the kinds, in the order in which the source is read.
+    #[error("{0}")]
+    Kinds(TypeFailure),
+    /// A form that isn't built yet, or a rule on loops or weight that is broken.
     #[error("not accepted yet")]
     Later,
 }

@@ -1,6 +1,8 @@
 // Small sources, their programs and their refusals, evaluated on the definitions themselves.
 
 ghost use Rattle.std.specs.Prelude.{codes};
+ghost use Rattle.sj_names.specs.declared.failure.Fault.TheVariants as fault;
+ghost use Rattle.sj_names.specs.definitions.Failures.{failure_at};
 ghost use Rattle.sj_accept.specs.declared.refusal.Refusal.TheVariants as refusal;
 ghost use Rattle.sj_accept.specs.definitions.Accepted.{IsSourceOf};
 ghost use Rattle.sj_accept.specs.definitions.Refusals.{IsRefusedFor};
@@ -41,13 +43,18 @@ pub fn deep_sources()
     walks_tell_the_first_bad_token();
 }
 
-/// Programs of the grammar with an input, with two signals of one name, with a form that isn't built, with a name
-/// that isn't declared, and with a loop whose block ends at once.
+/// Programs of the grammar with a name that isn't declared, and with two signals of one name.
+pub fn misnamed_sources()
+    ensures no_such_signal { IsRefusedFor (codes "system{interface{}{emit A;}}") (refusal.Names (failure_at fault.Unknown 24)) }
+    ensures one_name_twice { IsRefusedFor (codes "system{interface{output signal A;output signal A;}{}}") (refusal.Names (failure_at fault.Twice 47)) }
+{
+    walks_tell_the_first_bad_token();
+}
+
+/// Programs of the grammar with an input, with a form that isn't built, and with a loop whose block ends at once.
 pub fn unaccepted_sources()
     ensures an_input { IsRefusedFor (codes "system{interface{input signal A;}{}}") refusal.Later }
-    ensures one_name_twice { IsRefusedFor (codes "system{interface{output signal A;output signal A;}{}}") refusal.Later }
     ensures a_halt { IsRefusedFor (codes "system{interface{}{halt;}}") refusal.Later }
-    ensures no_such_signal { IsRefusedFor (codes "system{interface{}{emit A;}}") refusal.Later }
     ensures endless_tick { IsRefusedFor (codes "system{interface{}{while(true){}}}") refusal.Later }
 {
     walks_tell_the_first_bad_token();

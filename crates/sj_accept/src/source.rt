@@ -4,7 +4,10 @@ ghost use Rattle.sj_lexer.specs.declared.token.Token.{Token};
 ghost use Rattle.sj_lexer.specs.definitions.Readings.{AreTokens};
 ghost use Rattle.sj_lexer.specs.Lexing.{IsWhy};
 ghost use Rattle.stmt_parser.specs.definitions.Parsing.{IsNoProgram};
-ghost use Rattle.sj_accept.specs.definitions.Sources.{IsParsed};
+ghost use Rattle.sj_names.specs.declared.binding.Bound.{Bound as BoundTree};
+ghost use Rattle.sj_names.specs.definitions.Bindings.{IsBinding, IsWhyUnbound};
+ghost use Rattle.java_types.specs.definitions.Typings.{IsWhyUntyped};
+ghost use Rattle.sj_accept.specs.definitions.Sources.{SourceTree, IsParsed};
 ghost use Rattle.sj_accept.specs.definitions.Systems.{Accepts};
 ghost use Rattle.sj_accept.specs.definitions.Refusals.{IsWhyNot};
 
@@ -12,9 +15,11 @@ use crate::laws::{sources_are_one_tree, trees_are_whole};
 use crate::program::system_of;
 use crate::refusal::{AcceptError, Refusal};
 use crate::rules::keep_static_rules;
+use java_types::{TypeError, typed};
 use kernel_terms::System;
 use sj_ast::{Name, Raw, Tree};
 use sj_lexer::{LexError, lex};
+use sj_names::{BindError, bind};
 use std::alloc::Global;
 use stmt_parser::{ParseError, parse};
 use tick_tree::system_exits_fit;
@@ -40,6 +45,24 @@ fn parse_error(error: ParseError) -> AcceptError
     }
 }
 
+fn name_error(error: BindError) -> AcceptError
+    ensures { (source : List ℕ) (tree : SourceTree) → IsParsed source tree → IsWhyUnbound tree error → IsWhyNot source result }
+{
+    match error {
+        BindError::Failed(failure) => AcceptError::Refused(Refusal::Names(failure)),
+        BindError::NoMemory => AcceptError::NoMemory,
+    }
+}
+
+fn kind_error(error: TypeError) -> AcceptError
+    ensures { (source : List ℕ) (tree : SourceTree) (bound : BoundTree) → IsParsed source tree → IsBinding tree bound → IsWhyUntyped bound error → IsWhyNot source result }
+{
+    match error {
+        TypeError::Failed(failure) => AcceptError::Refused(Refusal::Kinds(failure)),
+        TypeError::NoMemory => AcceptError::NoMemory,
+    }
+}
+
 /// How many bytes a source may have.
 pub const MOST_SOURCE_BYTES: usize = 1_048_576;
 
@@ -59,7 +82,8 @@ fn read_tree(alloc: Global, source: &[u8]) -> Result<Tree<Name, Raw<Name>>, Acce
 }
 
 /// The system of an accepted source. A refusal is the first reason in this order: the first place where the bytes
-/// are no token, the first token that can't stand where it does or is too deep, and then any other rule.
+/// are no token, the first token that can't stand where it does or is too deep, the first failure of a name, the
+/// first failure of a kind, and then any other rule.
 pub fn accept(alloc: Global, source: &[u8]) -> Result<System, AcceptError>
     requires { length source.now ≤ most_source_bytes }
     ensures { MatchResult result (Accepts source.now) (IsWhyNot source.now) }
@@ -67,6 +91,14 @@ pub fn accept(alloc: Global, source: &[u8]) -> Result<System, AcceptError>
     sources_are_one_tree();
     trees_are_whole();
     let tree = read_tree(alloc, source)?;
+    let bound = match bind(alloc, &tree) {
+        Ok(bound) => bound,
+        Err(error) => return Err(name_error(error)),
+    };
+    let _typed = match typed(alloc, &bound) {
+        Ok(typed) => typed,
+        Err(error) => return Err(kind_error(error)),
+    };
     let Some(system) = system_of(alloc, &tree)? else {
         return Err(AcceptError::Refused(Refusal::Later));
     };

@@ -1,4 +1,5 @@
 use crate::{AcceptError, MOST_SOURCE_BYTES, Refusal, accept};
+use sj_names::{Failure, Fault};
 use std::alloc::{AllocError, Global};
 use std::test::Fail;
 
@@ -12,6 +13,10 @@ fn refusal_of(alloc: Global, source: &[u8]) -> Result<Option<Refusal>, Fail> {
         Err(AcceptError::Refused(refusal)) => Ok(Some(refusal)),
         Err(AcceptError::NoMemory) => Err(AllocError.into()),
     }
+}
+
+fn failure(fault: Fault, at: u32) -> Option<Refusal> {
+    Some(Refusal::Names(Failure { at, fault }))
 }
 
 // So many times this statement and then the others in a domain, beside one that receives on C in a loop.
@@ -48,7 +53,7 @@ fn accepts_built_forms(rt: HostRuntime) -> Result<(), Fail> {
 
 #[test]
 fn tells_the_first_reason(rt: HostRuntime) -> Result<(), Fail> {
-    let cases: [(&[u8], Refusal); 12] = [
+    let cases: [(&[u8], Refusal); 10] = [
         (b"", Refusal::Syntax(0)),
         (b"system{interface{}{@}}", Refusal::BadByte(19)),
         (b"system{interface{}{pause;} 08", Refusal::BadNumber(27)),
@@ -62,11 +67,6 @@ fn tells_the_first_reason(rt: HostRuntime) -> Result<(), Fail> {
         (
             b"system{interface{int channel C;}{send C(4294967296);}}",
             Refusal::BadNumber(40),
-        ),
-        (b"system{interface{}{emit A;}}", Refusal::Later),
-        (
-            b"system{interface{output signal A;output signal A;}{}}",
-            Refusal::Later,
         ),
         (b"system{interface{}{halt;}}", Refusal::Later),
         (
@@ -82,33 +82,91 @@ fn tells_the_first_reason(rt: HostRuntime) -> Result<(), Fail> {
 
 #[test]
 fn looks_at_names(rt: HostRuntime) -> Result<(), Fail> {
-    let sources: [&[u8]; 7] = [
-        b"system{interface{output signal A;}{emit B;}}",
-        b"system{interface{int channel C;int channel C;}{send C(1);}><{receive C;}}",
-        b"system{interface{int channel C;output signal C;}{send C(1);}><{receive C;}}",
-        b"system{interface{int channel C;}{emit C;}><{receive C;}}",
-        b"system{interface{int channel C;}{send D(1);}><{receive C;}}",
-        b"system{interface{output signal A;}{send A(1);}><{receive A;}}",
-        b"system{interface{output signal A;}{receive A;}}",
+    let cases: [(&[u8], Fault, u32); 9] = [
+        (
+            b"system{interface{output signal A;}{emit B;}}",
+            Fault::Unknown,
+            40,
+        ),
+        (b"system{interface{}{halt;emit B;}}", Fault::Unknown, 29),
+        (
+            b"system{interface{int channel C;int channel C;}{send C(1);}><{receive C;}}",
+            Fault::Twice,
+            43,
+        ),
+        (
+            b"system{interface{int channel C;output signal C;}{send C(1);}><{receive C;}}",
+            Fault::Twice,
+            45,
+        ),
+        (
+            b"system{interface{int channel C;}{emit C;}><{receive C;}}",
+            Fault::ChannelEnds,
+            29,
+        ),
+        (
+            b"system{interface{int channel C;}{send D(1);}><{receive C;}}",
+            Fault::ChannelEnds,
+            29,
+        ),
+        (
+            b"system{interface{output signal A;}{send A(1);}><{receive A;}}",
+            Fault::Unknown,
+            40,
+        ),
+        (
+            b"system{interface{output signal A;}{receive A;}}",
+            Fault::Unknown,
+            43,
+        ),
+        (
+            b"system{interface{input signal A;}{emit A;}}",
+            Fault::EmitInput,
+            39,
+        ),
     ];
-    for source in sources {
-        assert_eq!(rt; refusal_of(rt.alloc(), source)?, Some(Refusal::Later));
+    for (source, fault, at) in cases {
+        assert_eq!(rt; refusal_of(rt.alloc(), source)?, failure(fault, at));
     }
     Ok(())
 }
 
 #[test]
 fn looks_at_owners(rt: HostRuntime) -> Result<(), Fail> {
-    let sources: [&[u8]; 6] = [
-        b"system{interface{int channel C;}{}}",
-        b"system{interface{int channel C;}{}><{receive C;}}",
-        b"system{interface{output signal A;}{emit A;}><{emit A;}}",
-        b"system{interface{int channel C;}{send C(1);}}",
-        b"system{interface{int channel C;}{send C(1);receive C;}}",
-        b"system{interface{int channel C;}{send C(1);}><{receive C;}><{receive C;}}",
+    let cases: [(&[u8], Fault, u32); 6] = [
+        (
+            b"system{interface{int channel C;}{}}",
+            Fault::ChannelEnds,
+            29,
+        ),
+        (
+            b"system{interface{int channel C;}{}><{receive C;}}",
+            Fault::ChannelEnds,
+            29,
+        ),
+        (
+            b"system{interface{output signal A;}{emit A;}><{emit A;}}",
+            Fault::SignalShared,
+            51,
+        ),
+        (
+            b"system{interface{int channel C;}{send C(1);}}",
+            Fault::ChannelEnds,
+            29,
+        ),
+        (
+            b"system{interface{int channel C;}{send C(1);receive C;}}",
+            Fault::ChannelEnds,
+            51,
+        ),
+        (
+            b"system{interface{int channel C;}{send C(1);}><{receive C;}><{receive C;}}",
+            Fault::ChannelEnds,
+            69,
+        ),
     ];
-    for source in sources {
-        assert_eq!(rt; refusal_of(rt.alloc(), source)?, Some(Refusal::Later));
+    for (source, fault, at) in cases {
+        assert_eq!(rt; refusal_of(rt.alloc(), source)?, failure(fault, at));
     }
     Ok(())
 }
@@ -201,7 +259,7 @@ fn accepts_sixteen_domains(rt: HostRuntime) -> Result<(), Fail> {
     source.extend_from_slice(b"}")?;
     assert_eq!(rt; refusal_of(rt.alloc(), &source)?, None);
     more.extend_from_slice(b"><{}}")?;
-    assert_eq!(rt; refusal_of(rt.alloc(), &more)?, Some(Refusal::Later));
+    assert_eq!(rt; refusal_of(rt.alloc(), &more)?, failure(Fault::TooMany, 82));
     Ok(())
 }
 
@@ -242,7 +300,10 @@ fn accepts_64_channels(rt: HostRuntime) -> Result<(), Fail> {
     let most = joined(rt.alloc(), false)?;
     assert_eq!(rt; refusal_of(rt.alloc(), &most)?, None);
     let more = joined(rt.alloc(), true)?;
-    assert_eq!(rt; refusal_of(rt.alloc(), &more)?, Some(Refusal::Later));
+    assert_eq!(rt;
+        refusal_of(rt.alloc(), &more)?,
+        failure(Fault::TooMany, 989)
+    );
     Ok(())
 }
 
@@ -271,7 +332,7 @@ fn accepts_1024_signals_of_each_domain(rt: HostRuntime) -> Result<(), Fail> {
     let more = emitting(rt.alloc(), 1025)?;
     assert_eq!(rt;
         refusal_of(rt.alloc(), more.as_bytes())?,
-        Some(Refusal::Later)
+        failure(Fault::TooMany, 21449)
     );
     Ok(())
 }
@@ -285,7 +346,7 @@ fn refuses_40_000_signals(rt: HostRuntime) -> Result<(), Fail> {
     source.push_str("}{}}")?;
     assert_eq!(rt;
         refusal_of(rt.alloc(), source.as_bytes())?,
-        Some(Refusal::Later)
+        failure(Fault::TooMany, 19401)
     );
     Ok(())
 }

@@ -9,14 +9,16 @@ ghost use Rattle.sj_main.specs.CommandWords.{AreFew};
 ghost use Rattle.sj_main.specs.definitions.Answers.{PrintsRun, PrintsRefusal, PrintsUsage, PrintsMisfit, PrintsWeight, FailsToRead, BeginsAnswer};
 ghost use Rattle.sj_main.specs.OrderSteps.{BeginsOrder, TellsWeight};
 ghost use Rattle.sj_main.specs.definitions.Commands.{IsNoCommand, word_list, IsCommand};
-ghost use Rattle.sj_main.specs.definitions.Verdicts.{misfit_line, numbered_line, refusal_line, IsMisfit, OrdersSuch};
+ghost use Rattle.sj_main.specs.definitions.Verdicts.{fault_text, kind_place, kind_text, misfit_line, numbered_line, refusal_line, IsMisfit, OrdersSuch};
 
 use crate::commands::{Turns, read_order};
 use crate::order::{OrderError, order};
 use itoa::Buffer;
+use java_types::TypeFailure;
 use java_values::NoMemory;
 use sj_accept::Refusal;
 use sj_io::{Files, Sink, write_all};
+use sj_names::Fault;
 use std::alloc::Global;
 use tick_log::print;
 
@@ -73,6 +75,39 @@ fn answer_numbered<K: Sink>(out: &mut K, text: &[u8], number: u64, status: u8) -
     }
 }
 
+// What stands before the place of a failure of names.
+fn fault_text(fault: Fault) -> &'static [u8]
+    ensures { result.now ≡ fault_text fault }
+{
+    match fault {
+        Fault::Unknown => b"refused Unknown at ",
+        Fault::Twice => b"refused Twice at ",
+        Fault::SignalShared => b"refused SignalShared at ",
+        Fault::EmitInput => b"refused EmitInput at ",
+        Fault::ChannelEnds => b"refused ChannelEnds at ",
+        Fault::TooMany => b"refused TooMany at ",
+    }
+}
+
+// What stands before the place of a failure of kinds.
+fn kind_text(failure: TypeFailure) -> &'static [u8]
+    ensures { result.now ≡ kind_text failure }
+{
+    match failure {
+        TypeFailure::Mismatch(_) => b"refused Mismatch at ",
+        TypeFailure::Divisor(_) => b"refused Divisor at ",
+    }
+}
+
+fn kind_place(failure: TypeFailure) -> u32
+    ensures { result ≡ kind_place failure }
+{
+    match failure {
+        TypeFailure::Mismatch(at) => at,
+        TypeFailure::Divisor(at) => at,
+    }
+}
+
 // Writes the line of a refusal, and answers its status, or 4 where the sink fails.
 fn answer_refusal<K: Sink>(out: &mut K, refusal: Refusal) -> u8
     ensures status { (result ≡ 1) ⊎ (result ≡ 4) }
@@ -88,6 +123,12 @@ fn answer_refusal<K: Sink>(out: &mut K, refusal: Refusal) -> u8
         }
         Refusal::Syntax(at) => answer_numbered(out, b"refused Syntax at ", u64::from(at), 1),
         Refusal::TooDeep(at) => answer_numbered(out, b"refused TooDeep at ", u64::from(at), 1),
+        Refusal::Names(failure) => {
+            answer_numbered(out, fault_text(failure.fault), u64::from(failure.at), 1)
+        }
+        Refusal::Kinds(failure) => {
+            answer_numbered(out, kind_text(failure), u64::from(kind_place(failure)), 1)
+        }
         Refusal::Later => answer(out, b"refused Later\n", 1),
     }
 }

@@ -307,14 +307,71 @@ fn an_expression_has_at_most_256_operators(rt: HostRuntime) -> Result<(), Fail> 
 }
 
 #[test]
+fn refuses_names_and_kinds_at_their_places(rt: HostRuntime) -> Result<(), Fail> {
+    let cases: [(&[u8], &[u8]); 13] = [
+        (b"system{interface{}{emit Q;}}", b"refused Unknown at 24\n"),
+        (
+            b"system{interface{}{halt;abort(A){x=1;}}}",
+            b"refused Unknown at 30\n",
+        ),
+        (
+            b"system{interface{output signal A;output signal A;}{}}",
+            b"refused Twice at 47\n",
+        ),
+        (
+            b"system{interface{output signal A;}{emit A;}><{emit A;}}",
+            b"refused SignalShared at 51\n",
+        ),
+        (
+            b"system{interface{input signal A;}{emit A;}}",
+            b"refused EmitInput at 39\n",
+        ),
+        (
+            b"system{interface{int channel C;}{send C(1);}><{}}",
+            b"refused ChannelEnds at 29\n",
+        ),
+        (
+            b"system{interface{int channel C;}{send C(1);receive C;}}",
+            b"refused ChannelEnds at 51\n",
+        ),
+        (
+            b"system{interface{int channel C;}{emit C;}><{receive C;}}",
+            b"refused ChannelEnds at 29\n",
+        ),
+        (
+            b"system{interface{}{}><{}><{}><{}><{}><{}><{}><{}><{}><{}><{}><{}><{}><{}><{}><{}><{}}",
+            b"refused TooMany at 82\n",
+        ),
+        (
+            b"system{interface{output signal A;}{emit B;}}}",
+            b"refused Syntax at 44\n",
+        ),
+        (
+            b"system{interface{output int signal A;}{emit A(true);}}",
+            b"refused Mismatch at 46\n",
+        ),
+        (
+            b"system{interface{output int signal A;}{emit A(1/0);}}",
+            b"refused Divisor at 48\n",
+        ),
+        (
+            b"system{interface{output int signal A;}{emit A(true);emit B;}}",
+            b"refused Unknown at 57\n",
+        ),
+    ];
+    for (source, line) in cases {
+        refuses(&rt, rt.alloc(), source, line)?;
+    }
+    Ok(())
+}
+
+#[test]
 fn refuses_other_sources_as_not_built_yet(rt: HostRuntime) -> Result<(), Fail> {
-    let cases: [&[u8]; 6] = [
+    let cases: [&[u8]; 4] = [
         b"system{interface{output signal A;}{while(true){emit A;}}}",
-        b"system{interface{output signal A;}{emit B;}}",
-        b"system{interface{output signal A;output signal A;}{}}",
         b"system{interface{}{signal A;}}",
         b"system{interface{input signal A;}{}}",
-        b"system{interface{int channel C;}{send C(1);}><{}}",
+        b"system{interface{output signal A;}{halt;emit A;}}",
     ];
     for source in cases {
         refuses(&rt, rt.alloc(), source, b"refused Later\n")?;

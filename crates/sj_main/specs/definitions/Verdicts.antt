@@ -1,5 +1,6 @@
 -- What is answered, in the order in which it is looked for: the words, the reading of the source, its
--- size, its tokens, grammar and rules, whether the turns fit its domains, the run's weight, and then the run.
+-- size, its tokens, grammar, names, kinds and rules, whether the turns fit its domains, the run's weight, and then the
+-- run.
 use Rattle.std.specs.Prelude.{◌≡◌, ℕ, ◌<◌, ◌≤◌, List, ◌++◌, length, Option, IfSome, codes, decimal}
 use Rattle.java_values.specs.SourceLimits.{most_source_bytes}
 use Rattle.tick_log.specs.definitions.Runs.{RunState}
@@ -8,7 +9,11 @@ use Rattle.kernel_rules.specs.definitions.LegalTick.{no_inputs}
 use Rattle.domain_core.specs.definitions.runs.Systems.{SystemState}
 use Rattle.domain_core.specs.definitions.runs.Scheduled.{IsScheduledRun, IsWholeRun}
 use Rattle.sj_main.specs.declared.commands.Turns.{Turns}
+use Rattle.sj_names.specs.declared.failure.Fault.{Fault}
+use Rattle.sj_names.specs.declared.failure.Fault.TheVariants as fault
 use Rattle.sj_accept.specs.declared.refusal.Refusal.{Refusal}
+use Rattle.java_types.specs.declared.failure.TypeFailure.{TypeFailure}
+use Rattle.java_types.specs.declared.failure.TypeFailure.TheVariants as kinds
 use Rattle.sj_accept.specs.declared.refusal.Refusal.TheVariants as refusal
 use Rattle.sj_accept.specs.definitions.Programs.{LoweredProgram, tables_of_program}
 use Rattle.sj_accept.specs.definitions.Accepted.{IsSourceOf}
@@ -33,6 +38,23 @@ overweight_line = numbered_line (codes "over the run weight ")
 abbrev pub size_line : List ℕ
 size_line = codes "refused Size\n"
 
+-- what stands before the place of a failure of names
+abbrev pub fault_text : Fault → List ℕ
+fault_text fault.Unknown = codes "refused Unknown at "
+fault_text fault.Twice = codes "refused Twice at "
+fault_text fault.SignalShared = codes "refused SignalShared at "
+fault_text fault.EmitInput = codes "refused EmitInput at "
+fault_text fault.ChannelEnds = codes "refused ChannelEnds at "
+fault_text fault.TooMany = codes "refused TooMany at "
+
+abbrev pub kind_text : TypeFailure → List ℕ
+kind_text (kinds.Mismatch at) = codes "refused Mismatch at "
+kind_text (kinds.Divisor at) = codes "refused Divisor at "
+
+abbrev pub kind_place : TypeFailure → ℕ
+kind_place (kinds.Mismatch at) = at
+kind_place (kinds.Divisor at) = at
+
 -- the kind of a refusal and its place, a byte offset from 0
 abbrev pub refusal_line : Refusal → List ℕ
 refusal_line (refusal.BadByte at) = numbered_line (codes "refused BadByte at ") at
@@ -40,6 +62,8 @@ refusal_line (refusal.BadNumber at) = numbered_line (codes "refused BadNumber at
 refusal_line (refusal.OpenComment at) = numbered_line (codes "refused OpenComment at ") at
 refusal_line (refusal.Syntax at) = numbered_line (codes "refused Syntax at ") at
 refusal_line (refusal.TooDeep at) = numbered_line (codes "refused TooDeep at ") at
+refusal_line (refusal.Names failure) = numbered_line (fault_text failure.fault) failure.at
+refusal_line (refusal.Kinds failure) = numbered_line (kind_text failure) (kind_place failure)
 refusal_line refusal.Later = codes "refused Later\n"
 
 -- the turns fit the program's domains, and the run isn't too heavy
