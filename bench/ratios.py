@@ -14,14 +14,21 @@ processor time of the whole command, with its output to /dev/null, and the least
 - loop: one domain with a loop of many statements, each fourth a pause, in many turns. Increments for each
   statement and turn; the statements are what is cut to a quarter.
 
-Five works time reading alone: a source of 1 MiB that is a program of the grammar, and is refused behind that for its
-first port, an input. Increments for each byte; the goal is at most 6.
+Five works time reading, names too: a source of 1 MiB that is a program of the grammar, and is refused behind that for
+its names, or for its first port, an input. Increments for each byte; the goal is at most 6.
 
 - statements: one domain with statements of many forms.
 - operators: assignments of expressions with 256 operators, of all levels in turn.
 - parentheses: assignments of names in 62 parentheses.
 - comments: of both forms.
 - ports: outputs, each of a name of its own.
+
+Two works time names and kinds too: a source of 1 MiB in which both are right, and that is refused for a form that isn't
+built. Increments for each byte.
+
+- names: domains with local signals in nested blocks, of names that differ in their last bytes alone; then an emission
+  of each; then traps of one name, declared again and again.
+- kinds: assignments of expressions with 256 operators, to and over variables of all kinds.
 """
 import os
 import subprocess
@@ -36,6 +43,7 @@ MOST_WEIGHT = 100_000
 MOST_SOURCE_BYTES = 1_048_576
 MOST_OPERATORS = 256
 MOST_OPEN = 64
+MOST_SIGNALS = 1024
 INCREMENTS = 50_000_000
 
 COUNTER = """
@@ -119,9 +127,10 @@ def loop_work(part):
     return source, f"rr:{turns}", statements * turns
 
 
-def unbuilt(part, piece, ports=""):
-    """A source of this part of the greatest size: its first port is an input, and its block has these pieces."""
-    front = "system{interface{input signal I;" + ports + "}{"
+def unbuilt(part, piece, ports="", declared=""):
+    """A source of this part of the greatest size: its first port is an input, and its block has these declarations and
+    then these pieces."""
+    front = "system{interface{input signal I;" + ports + "}{" + declared
     back = "}}"
     room = MOST_SOURCE_BYTES // part - len(front) - len(back)
     source = front + (piece * (room // len(piece))).ljust(room) + back
@@ -153,23 +162,51 @@ def ports_work(part):
     return unbuilt(part, " ", "".join(signal(f"S{n:06d}") for n in range(count)))
 
 
+def names_work(part):
+    """Each domain takes a quarter of the greatest size. In the exit of a trap the most levels are open."""
+    depth = MOST_OPEN - 4
+    each = MOST_SIGNALS // depth
+    names = [f"S{n:063d}" for n in range(depth * each)]
+    blocks = [names[n : n + each] for n in range(0, len(names), each)]
+    declared = "".join("{" + "".join(f"signal {name};" for name in block) for block in blocks)
+    front = "{" + declared + "".join(f"emit {name};" for name in names)
+    back = "}" * (depth + 1)
+    trap = "trap(T){exit(T);}"
+    count = 4
+    room = (MOST_SOURCE_BYTES - len(system([], [""] * count))) // count - len(front) - len(back)
+    domain = front + trap * (room // len(trap)) + back
+    source = system([], [domain] * (count // part))
+    return source, "-", len(source)
+
+
+def kinds_work(part):
+    declared = "boolean a=true;byte b=1;short c=2;char d='3';int e=4;long f=5;"
+    signs = ("|", "^", "&", "<<", "+", "*", ">>>", "-")
+    numbers = "".join(signs[n % len(signs)] + "bcdef"[n % 5] for n in range(MOST_OPERATORS))
+    tests = ("||", "&&", "|", "^", "&", "==", "!=")
+    truths = "".join(tests[n % len(tests)] + "a" for n in range(MOST_OPERATORS))
+    return unbuilt(part, f"f=b{numbers};a=a{truths};", declared=declared)
+
+
 WORKS = (
-    ("run", "unit of run weight", 0, run_work),
-    ("make", "unit of weight", 0, make_work),
-    ("text", "byte", 0, text_work),
-    ("loop", "statement and turn", 0, loop_work),
-    ("statements", "byte", 1, statements_work),
-    ("operators", "byte", 1, operators_work),
-    ("parentheses", "byte", 1, parentheses_work),
-    ("comments", "byte", 1, comments_work),
-    ("ports", "byte", 1, ports_work),
+    ("run", "unit of run weight", "", run_work),
+    ("make", "unit of weight", "", make_work),
+    ("text", "byte", "", text_work),
+    ("loop", "statement and turn", "", loop_work),
+    ("statements", "byte", "refused Unknown", statements_work),
+    ("operators", "byte", "refused Unknown", operators_work),
+    ("parentheses", "byte", "refused Unknown", parentheses_work),
+    ("comments", "byte", "refused Later", comments_work),
+    ("ports", "byte", "refused TooMany", ports_work),
+    ("names", "byte", "refused Later", names_work),
+    ("kinds", "byte", "refused Later", kinds_work),
 )
 
 
-def want_whole(command):
-    """The source is read whole, and refused for no place of it."""
+def want_refused(command, told):
+    """The source is read whole, and refused for this reason."""
     text = subprocess.run(command, stdout=subprocess.PIPE, check=False).stdout
-    if text != b"refused Later\n":
+    if not text.startswith(told.encode("ascii")):
         sys.exit(f"{command}: {text}")
 
 
@@ -190,16 +227,16 @@ def main():
     with tempfile.TemporaryDirectory() as folder:
         plain = increment(folder)
         print(f"a plain atomic increment: {plain * 1e9:.2f} ns")
-        for name, unit, wanted, work in WORKS:
+        for name, unit, told, work in WORKS:
             for part in (4, 1):
                 source, turns, units = work(part)
                 path = os.path.join(folder, "work.sysj")
                 with open(path, "w", encoding="ascii") as out:
                     out.write(source)
                 command = [program, "order", path, turns, "-"]
-                if wanted == 1:
-                    want_whole(command)
-                took, system_part, held = measured(command, wanted)
+                if told:
+                    want_refused(command, told)
+                took, system_part, held = measured(command, 1 if told else 0)
                 each = took / units / plain
                 print(
                     f"{name:11s}  {took * 1000:7.1f} ms, {system_part:4.0%} system  {held:5.1f} MB  {units:11,d}"
