@@ -5,5 +5,6 @@ pub mod TableEntries
 pub mod MayEnd
 pub mod Marks
 pub mod Limits
+pub mod Divisors
 pub mod WellFormed
 pub mod Systems

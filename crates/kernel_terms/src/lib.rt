@@ -12,10 +12,10 @@ pub mod term;
 
 pub use expr::{Expr, ExprForm};
 pub use laws::threads_share_systems;
-pub use limits::{MOST_CHANNELS, MOST_DOMAINS, MOST_SIGNALS};
+pub use limits::{MOST_CHANNELS, MOST_DOMAINS, MOST_SIGNALS, MOST_VARIABLES};
 pub use rows::{
-    bodies_begin_anew, forms_keep_their_parts, forms_without_parts_stay, nodes_keep_their_kinds,
-    parts_nest_to_the_right, tests_keep_their_parts,
+    bodies_begin_anew, divisors_are_literals, forms_keep_their_parts, forms_without_parts_stay,
+    nodes_keep_their_kinds, parts_nest_to_the_right, tests_keep_their_parts,
 };
 pub use sig_test::SigTest;
 pub use system::System;

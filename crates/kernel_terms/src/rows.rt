@@ -1,8 +1,11 @@
 //! The statements, expressions and tests that trees stand for, form by form.
 
 ghost use Rattle.std.specs.Prelude.{◌≡◌, ℕ, ℤ, pos, Bool, true, false, [], ◌∷◌, Some, None};
+ghost use Rattle.java_values.specs.declared.kind.Kind.TheVariants as kind;
 ghost use Rattle.java_values.specs.declared.op.Op1.{Op1};
+ghost use Rattle.java_values.specs.declared.op.Op1.TheVariants as op1;
 ghost use Rattle.java_values.specs.declared.op.Op2.{Op2};
+ghost use Rattle.java_values.specs.declared.op.Op2.TheVariants as op2;
 ghost use Rattle.kernel_terms.specs.declared.expr.Expr.{Expr};
 ghost use Rattle.kernel_terms.specs.declared.expr.ExprForm.TheViews as tree;
 ghost use Rattle.kernel_terms.specs.declared.expr.ExprForm.TheVariants as node;
@@ -12,6 +15,7 @@ ghost use Rattle.kernel_terms.specs.declared.sig_test.SigTest.TheVariants as sig
 ghost use Rattle.kernel_terms.specs.declared.term.Term.{Term};
 ghost use Rattle.kernel_terms.specs.declared.term.Form.TheViews as form;
 ghost use Rattle.kernel_terms.specs.declared.term.Form.TheVariants as plain;
+ghost use Rattle.kernel_terms.specs.Divisors.{is_divisor, has_divisors};
 ghost use Rattle.kernel_terms.specs.Expressions.{expression, test, IsPresent, Not, Both, Either};
 ghost use Rattle.kernel_terms.specs.Expressions.{Literal, Variable, SignalValue, ChannelValue, Unary, Binary, Cast};
 ghost use Rattle.kernel_terms.specs.Statements.{statement, Nothing, Pause, Emit, Assign, If, Present};
@@ -88,4 +92,22 @@ pub fn tests_keep_their_parts()
     ensures not { (a : SigTest) → test (sig_tree.Not a) ≡ Not (test a) }
     ensures both { (a b : SigTest) → test (sig_tree.Both a b) ≡ Both (test a) (test b) }
     ensures either { (a b : SigTest) → test (sig_tree.Either a b) ≡ Either (test a) (test b) }
+{}
+
+/// A divisor is an integer or character literal other than 0, or a minus before an integer literal other than 0.
+pub fn divisors_are_literals()
+    ensures number { is_divisor (Literal kind.Int (pos 5)) ≡ true }
+    ensures long_number { is_divisor (Literal kind.Long (pos 5)) ≡ true }
+    ensures character { is_divisor (Literal kind.Char (pos 97)) ≡ true }
+    ensures zero { is_divisor (Literal kind.Int (pos 0)) ≡ false }
+    ensures truth { is_divisor (Literal kind.Boolean (pos 1)) ≡ false }
+    ensures minus { is_divisor (Unary kind.Int op1.Minus (Literal kind.Int (pos 5))) ≡ true }
+    ensures minus_zero { is_divisor (Unary kind.Int op1.Minus (Literal kind.Int (pos 0))) ≡ false }
+    ensures minus_character { is_divisor (Unary kind.Int op1.Minus (Literal kind.Char (pos 97))) ≡ false }
+    ensures plus { is_divisor (Unary kind.Int op1.Plus (Literal kind.Int (pos 5))) ≡ false }
+    ensures cast { is_divisor (Cast kind.Int (Literal kind.Int (pos 5))) ≡ false }
+    ensures variable { has_divisors (Binary kind.Int op2.Div (Variable kind.Int 0) (Variable kind.Int 1)) ≡ false }
+    ensures rest { has_divisors (Binary kind.Int op2.Rem (Variable kind.Int 0) (Variable kind.Int 1)) ≡ false }
+    ensures sum { has_divisors (Binary kind.Int op2.Add (Variable kind.Int 0) (Variable kind.Int 1)) ≡ true }
+    ensures below { has_divisors (Cast kind.Int (Binary kind.Int op2.Div (Variable kind.Int 0) (Literal kind.Int (pos 0)))) ≡ false }
 {}

@@ -7,10 +7,9 @@ use Rattle.sj_lexer.specs.declared.head.Head.TheVariants.{AtEnd, Between, Lexeme
 use Rattle.sj_lexer.specs.declared.head.Fault.{Fault}
 use Rattle.sj_lexer.specs.declared.token.Class.{Class}
 use Rattle.sj_lexer.specs.declared.token.Token.{Token}
-use Rattle.sj_lexer.specs.definitions.Signs.{Sign, signs, longest_sign}
+use Rattle.sj_lexer.specs.definitions.Signs.{Sign, signs, longest_sign, is_no_longer}
 use Rattle.sj_lexer.specs.definitions.Heads.{head}
 use Rattle.sj_lexer.specs.definitions.Readings.{Piece, Gap, Text, Leads, bytes_in, tokens_from, AreTokens, IsRefused}
-use Rattle.sj_lexer.specs.Lengths.{is_no_longer}
 
 abbrev all_within : ℕ → List Sign → Bool
 all_within n = list_all (λ s. nat_le (length s.text) n)

@@ -1,3 +1,2 @@
 pub mod definitions
 pub mod Lexing
-pub mod Lengths

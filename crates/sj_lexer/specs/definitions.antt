@@ -5,3 +5,4 @@ pub mod Numbers
 pub mod Characters
 pub mod Heads
 pub mod Readings
+pub mod Refusals

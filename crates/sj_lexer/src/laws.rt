@@ -4,11 +4,10 @@ ghost use Rattle.std.specs.Prelude.{◌≡◌, ℕ, true, List, Some, length, ma
 ghost use Rattle.std.specs.List.{list_all};
 ghost use Rattle.java_values.specs.Names.{reserved_words};
 ghost use Rattle.sj_lexer.specs.definitions.ReservedWords.{reserved};
-ghost use Rattle.sj_lexer.specs.definitions.Signs.{Sign, signs, longest_sign};
+ghost use Rattle.sj_lexer.specs.definitions.Signs.{Sign, signs, longest_sign, is_no_longer};
 ghost use Rattle.sj_lexer.specs.definitions.Readings.{AreTokens, IsRefused, HaveNames};
 ghost use Rattle.sj_lexer.specs.declared.token.Token.{Token};
 ghost use Rattle.sj_lexer.specs.declared.head.Fault.{Fault};
-ghost use Rattle.sj_lexer.specs.Lengths.{is_no_longer};
 
 /// The reserved words are those that are no names.
 pub fn reserved_words_are_no_names()

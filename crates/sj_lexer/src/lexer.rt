@@ -3,7 +3,7 @@
 ghost use Rattle.std.specs.Prelude.{◌≡◌, ◌≤◌, ◌<◌, ℕ, List, IfOk, IfErr, length, drop};
 ghost use Rattle.sj_lexer.specs.definitions.Heads.{head};
 ghost use Rattle.sj_lexer.specs.definitions.Readings.{AreTokens, AreInOrder, IsRefused};
-ghost use Rattle.sj_lexer.specs.Lexing.{IsWhy};
+ghost use Rattle.sj_lexer.specs.definitions.Refusals.{IsWhy};
 
 use crate::head::{Fault, Head, make_head};
 use crate::token::Token;

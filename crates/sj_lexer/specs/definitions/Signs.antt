@@ -1,5 +1,5 @@
 -- The signs.
-use Rattle.std.specs.Prelude.{ℕ, ◌==◌, List, [], ◌∷◌, Option, codes}
+use Rattle.std.specs.Prelude.{ℕ, ◌==◌, Bool, ◌||◌, not, nat_le, List, [], ◌∷◌, length, Option, codes}
 use Rattle.std.specs.List.{find, starts_with}
 use Rattle.sj_lexer.specs.declared.token.Mark.{Mark}
 use Rattle.sj_lexer.specs.declared.token.Mark.TheVariants as mark
@@ -55,3 +55,7 @@ signs =
 -- the longest sign with which the bytes begin
 abbrev pub longest_sign : List ℕ → Option Sign
 longest_sign bytes = find (λ s. starts_with ◌==◌ bytes s.text) signs
+
+-- where the bytes begin with the sign, it has at most so many bytes
+abbrev pub is_no_longer : List ℕ → ℕ → Sign → Bool
+is_no_longer bytes n s = not (starts_with ◌==◌ bytes s.text) || nat_le (length s.text) n
