@@ -1,3 +1,4 @@
+pub mod EndRows
 pub mod Rows
 pub mod definitions
 pub mod equations

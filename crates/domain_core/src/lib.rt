@@ -17,7 +17,8 @@ pub use laws::runs::{
 };
 pub use laws::steps::{new_domains_have_no_rounds, steps_are_rounds};
 pub use rows::{
-    budgets_are_spent, join_completes_suspended_receive, join_stays_at_abort,
+    budgets_are_spent, ends_have_places_in_each_form, ends_wait_in_each_form,
+    join_completes_suspended_receive, join_stays_at_abort, joins_complete_ends_in_parts,
     joins_have_the_sent_value, marks_are_of_the_domains, offer_is_withdrawn, one_rendezvous,
     one_stamp_order, rendezvous_by_rounds, smaller_number_comes_first, stamps_count_joins,
     waiting_ends_are_no_rest,

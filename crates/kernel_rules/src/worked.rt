@@ -38,9 +38,9 @@ pub use locals::{
     suspended_local_keeps_its_value,
 };
 pub use readings::{
-    emissions_are_combined, emissions_are_told_apart, expressions_have_values, operands_have_kinds,
-    operators_have_their_values, statements_read_the_tick, statuses_are_as_given,
-    tests_look_at_presence,
+    emissions_are_combined, emissions_are_told_apart, expressions_have_values,
+    long_emissions_are_combined, operands_have_kinds, operators_have_their_values,
+    statements_read_the_tick, statuses_are_as_given, tests_look_at_presence,
 };
 pub use registers::{
     each_form_has_registers_of_parts, registers_fit, registers_hold_values, registers_refused,
@@ -49,9 +49,10 @@ pub use registers::{
 };
 pub use variables::{
     body_hands_on_variables, branches_read_old_variables, each_form_mentions_what_it_names,
-    endless_turn_has_no_tick, if_takes_one_branch, loop_begins_anew, operands_are_read,
-    parallel_joins_variables, pausing_body_hands_on_variables, present_takes_one_branch,
-    sequence_hands_on_variables, sequence_waits_for_its_first_part,
-    statement_assigns_what_it_names, statement_mentions_what_it_names,
+    ended_branch_keeps_its_variables, ended_branch_shares_a_variable, endless_turn_has_no_tick,
+    if_takes_one_branch, loop_begins_anew, operands_are_read, parallel_joins_variables,
+    pausing_body_hands_on_variables, present_takes_one_branch, sequence_hands_on_variables,
+    sequence_waits_for_its_first_part, statement_assigns_what_it_names,
+    statement_mentions_what_it_names,
 };
 pub use ways::{loops_of_each_form_wait, shape_tells_ends, shape_tells_exits};

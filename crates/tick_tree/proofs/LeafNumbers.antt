@@ -2,7 +2,7 @@
 use Rattle.std.proofs.Common.{◌≡◌, ℕ, zero, suc, ◌+◌, List, ◌∷◌, ◌++◌, arith, refl, ap, ◌∙◌}
 use Rattle.tick_tree.specs.definitions.Shapes.{Shape, Single, InTurn, OneOf, Beside, WithNew}
 use Rattle.tick_tree.specs.definitions.Trees.{leaves_in, copies_in, renamed, numbered, tree_of}
-use Rattle.tick_tree.specs.Laws.{numbers_from, leaf_numbers}
+use Rattle.tick_tree.specs.definitions.Laws.{numbers_from, leaf_numbers}
 
 same_from : (n m k l : ℕ) → n ≡ m → k ≡ l → numbers_from n k ≡ numbers_from m l
 same_from n m k l x y = ap (λ i. numbers_from i k) x ∙ ap (numbers_from m) y

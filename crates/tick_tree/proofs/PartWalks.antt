@@ -6,8 +6,8 @@ use Rattle.kernel_terms.specs.Expressions.{Expression, Test}
 use Rattle.kernel_terms.specs.Statements.{Stmt, If, Present, Seq, Loop, Par, Abort, Suspend}
 use Rattle.kernel_terms.specs.MayEnd.{starting, resuming, resumes, ends0, ends1, either, in_turn, beside}
 use Rattle.tick_tree.specs.definitions.Leaves.{nodes_of, nodes_of_test}
-use Rattle.tick_tree.specs.definitions.Weight.{nowhere}
-use Rattle.tick_tree.specs.Measures.{starting_weight, resuming_weight, bit_of, AreWays, IsMeasure}
+use Rattle.tick_tree.specs.definitions.Weight.{nowhere, starting_weight, resuming_weight}
+use Rattle.tick_tree.specs.Measures.{bit_of, AreWays, IsMeasure}
 use Rattle.tick_tree.specs.definitions.Weight.{capped}
 use Rattle.tick_tree.specs.declared.measure.Exits.{Exits}
 use Rattle.tick_tree.specs.declared.measure.Measure.{Measure}

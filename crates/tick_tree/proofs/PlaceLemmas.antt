@@ -7,7 +7,7 @@ use Rattle.tick_tree.specs.definitions.Leaves.{own_leaves}
 use Rattle.tick_tree.specs.definitions.Shapes.{Shape, Single, InTurn, OneOf, Beside, WithNew, of_expression, of_test, with_test, starting_shape, resuming_shape, joined_by, then_shape, tested, with_new}
 use Rattle.tick_tree.specs.definitions.Trees.{leaves_in, copies_in}
 use Rattle.tick_tree.specs.definitions.Weight.{nowhere}
-use Rattle.tick_tree.specs.Laws.{without_places, without_places_of_some}
+use Rattle.tick_tree.specs.definitions.Laws.{without_places, without_places_of_some}
 
 two : (both : Shape → Shape → Shape) (a b c d : Shape) → a ≡ c → b ≡ d → both a b ≡ both c d
 two both a b c d x y = ap (λ s. both s b) x ∙ ap (λ s. both c s) y

@@ -1,4 +1,3 @@
-pub mod Laws
 pub mod Measures
 pub mod Rows
 pub mod definitions

@@ -4,16 +4,9 @@ use Rattle.std.specs.Int.{bit_at}
 use Rattle.kernel_terms.specs.Statements.{Stmt}
 use Rattle.std.specs.List.{list_all}
 use Rattle.kernel_terms.specs.MayEnd.{Ways, starting, resuming, resumes, ends0, ends1}
-use Rattle.tick_tree.specs.definitions.Shapes.{starting_shape, resuming_shape}
-use Rattle.tick_tree.specs.definitions.Weight.{capped, weight_of_shape, weight_of_some, nowhere}
+use Rattle.tick_tree.specs.definitions.Weight.{capped, starting_weight, resuming_weight}
 use Rattle.tick_tree.specs.declared.measure.Exits.{Exits}
 use Rattle.tick_tree.specs.declared.measure.Measure.{Measure}
-
-abbrev pub starting_weight : Stmt → ℕ
-starting_weight p = weight_of_shape (starting_shape nowhere 0 p)
-
-abbrev pub resuming_weight : Stmt → ℕ
-resuming_weight p = weight_of_some (resuming_shape nowhere 0 p)
 
 abbrev pub bit_of : Bool → ℕ
 bit_of b = cond b 1 0

@@ -32,6 +32,10 @@ sees_own_emission = stmt.Seq (Abort false true (IsPresent 0) (stmt.Seq (Emit 0 N
 abbrev pub weakly_sees_own_emission : Stmt
 weakly_sees_own_emission = stmt.Seq (Abort true true (IsPresent 0) (stmt.Seq (Emit 0 None) Pause)) (Emit 1 None)
 
+-- `emit S(#R);`, where S has the number 0, and R this one
+abbrev pub emits_value_of : ℕ → Stmt
+emits_value_of s = Emit 0 (Some (SignalValue kind.Int s))
+
 -- `pause; emit A; pause; emit B;`
 abbrev pub two_pauses : Stmt
 two_pauses = sequence (Pause ∷ Emit 0 None ∷ Pause ∷ Emit 1 None ∷ [])

@@ -1,4 +1,5 @@
 pub mod Exits
+pub mod Laws
 pub mod Leaves
 pub mod Precedence
 pub mod Shapes

@@ -14,10 +14,9 @@ ghost use Rattle.tick_tree.specs.definitions.Leaves.{own_leaves, places_of};
 ghost use Rattle.tick_tree.specs.definitions.Shapes.{Shape, starting_shape, resuming_shape};
 ghost use Rattle.tick_tree.specs.definitions.Trees.{leaves_in, copies_in, tree_of};
 ghost use Rattle.tick_tree.specs.definitions.Precedence.{interface_count};
-ghost use Rattle.tick_tree.specs.definitions.Weight.{weight_of_shape, weight_of_some, nowhere};
-ghost use Rattle.tick_tree.specs.Measures.{starting_weight, resuming_weight};
+ghost use Rattle.tick_tree.specs.definitions.Weight.{weight_of_shape, weight_of_some, nowhere, starting_weight, resuming_weight};
 ghost use Rattle.tick_tree.specs.definitions.Exits.{exits_fit};
-ghost use Rattle.tick_tree.specs.Laws.{numbers_from, leaf_numbers, without_places, without_places_of_some};
+ghost use Rattle.tick_tree.specs.definitions.Laws.{numbers_from, leaf_numbers, without_places, without_places_of_some};
 
 /// A statement that keeps the rules of a system exits to depths below the limit alone.
 pub fn program_exits_fit()

@@ -19,7 +19,7 @@ pub use parts::{
 };
 pub use rows::{
     alternatives_have_no_order, branches_that_see_each_other, emission_beside_its_test,
-    emission_precedes_reads_in_other_branches, emissions_do_not_resume,
+    emission_precedes_itself, emission_precedes_reads_in_other_branches, emissions_do_not_resume,
     immediate_abort_sees_own_emission, immediate_weak_abort_sees_own_emission, joints_of_trees,
     leaves_read_their_expressions, new_copy_of_local_each_turn, nothing_starts_behind_endless_part,
     resumed_sequence, resumed_tests_see_own_emission, self_causing_signal, term_with_places,

@@ -8,8 +8,8 @@ ghost use Rattle.kernel_terms.specs.Statements.{Stmt, Nothing, Pause, Emit, Assi
 ghost use Rattle.kernel_terms.specs.Statements.{sequence, sequence_from, parallel, parallel_from, statement};
 ghost use Rattle.kernel_terms.specs.MayEnd.{Ways, ends0, ends1, either, in_turn, beside, within_trap};
 ghost use Rattle.tick_tree.specs.definitions.Leaves.{nodes_of, nodes_of_test, nodes_of_value};
-ghost use Rattle.tick_tree.specs.definitions.Weight.{weight_of};
-ghost use Rattle.tick_tree.specs.Measures.{resuming_weight, AreWays, IsMeasure, IsMeasureOfParts, some_ends1};
+ghost use Rattle.tick_tree.specs.definitions.Weight.{weight_of, resuming_weight};
+ghost use Rattle.tick_tree.specs.Measures.{AreWays, IsMeasure, IsMeasureOfParts, some_ends1};
 ghost use Rattle.tick_tree.specs.definitions.Exits.{exits_fit};
 ghost use Rattle.tick_tree.specs.definitions.Weight.{capped};
 

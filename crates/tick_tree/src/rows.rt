@@ -6,9 +6,8 @@ ghost use Rattle.kernel_terms.specs.Statements as stmt;
 ghost use Rattle.tick_tree.specs.definitions.Shapes.{starting_shape, resuming_shape};
 ghost use Rattle.tick_tree.specs.definitions.Trees.{Tree, Seq, Alt, tree_of, tree_of_some, starting_tree, resuming_tree};
 ghost use Rattle.tick_tree.specs.definitions.Precedence.{IsCausal, IsCausalIf, HasCausalTrees};
-ghost use Rattle.tick_tree.specs.definitions.Weight.{weight_of, nowhere};
-ghost use Rattle.tick_tree.specs.Measures.{starting_weight, resuming_weight};
-ghost use Rattle.tick_tree.specs.Rows.{causes_itself, sees_own_emission, weakly_sees_own_emission};
+ghost use Rattle.tick_tree.specs.definitions.Weight.{weight_of, nowhere, starting_weight, resuming_weight};
+ghost use Rattle.tick_tree.specs.Rows.{causes_itself, emits_value_of, sees_own_emission, weakly_sees_own_emission};
 ghost use Rattle.tick_tree.specs.Rows.{two_pauses, places, two_pauses_resumed, new_copies, new_copies_resumed};
 ghost use Rattle.tick_tree.specs.Rows.{joints, joints_started, joints_resumed, sees_beside, see_each_other};
 ghost use Rattle.tick_tree.specs.Rows.{suspends_itself, aborts_itself};
@@ -21,6 +20,12 @@ ghost use Rattle.tick_tree.specs.Rows.{send_five, pause_if_present, emit_if_less
 /// An emission after a test of the same signal isn't causal.
 pub fn self_causing_signal()
     ensures { (at : ℕ → ℕ) → IsCausal (tree_of 0 (starting_shape at 0 causes_itself)) → ⊥ }
+{}
+
+/// An emission that reads the signal that it emits precedes itself, and one that reads another signal doesn't.
+pub fn emission_precedes_itself()
+    ensures own { (at : ℕ → ℕ) → IsCausal (tree_of 2 (starting_shape at 0 (emits_value_of 0))) → ⊥ }
+    ensures another { (at : ℕ → ℕ) → IsCausal (tree_of 2 (starting_shape at 0 (emits_value_of 1))) }
 {}
 
 /// A strong immediate abort whose body emits the signal that it looks at isn't causal.

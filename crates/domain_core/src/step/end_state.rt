@@ -138,9 +138,7 @@ pub fn clear_asks(asks: &mut Vec<Option<i64>>)
     ensures asks { (k : ℕ) → get_or asks.new.items k None ≡ None }
     ensures len { length asks.new.items ≡ length asks.old.items }
 {
-    for at in 0..asks.len() {
-        asks[at] = None;
-    }
+    asks.fill(None);
 }
 
 // The end of a place that waits asks its value, where no place before it does.

@@ -189,7 +189,5 @@ pub fn stand_none(standing: &mut Vec<bool>)
     ensures standing { (k : ℕ) → get_or standing.new.items k false ≡ false }
     ensures len { length standing.new.items ≡ length standing.old.items }
 {
-    for at in 0..standing.len() {
-        standing[at] = false;
-    }
+    standing.fill(false);
 }

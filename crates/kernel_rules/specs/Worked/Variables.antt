@@ -117,6 +117,10 @@ assigns_beside p q =
 abbrev pub both_assign : Stmt → Stmt → Stmt
 both_assign p q = then_shown (Trap (Par (Seq (assign 0 1) p) (Seq (assign 0 2) q)))
 
+-- trap(T){ {if(false){x = 1;} p} || {x = 2; q} } emit B(x);
+abbrev pub second_assigns : Stmt → Stmt → Stmt
+second_assigns p q = then_shown (Trap (Par (Seq may_assign p) (Seq (assign 0 2) q)))
+
 -- an expression, and the forms that have it as one of their operands
 abbrev pub expressions_around : Expression → List Expression
 expressions_around e = e ∷ Unary kind.Int op1.Minus e ∷ plus e (int 4) ∷ plus (int 4) e ∷ Cast kind.Int e ∷ []

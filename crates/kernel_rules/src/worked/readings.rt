@@ -140,6 +140,24 @@ pub fn emissions_are_combined()
     ensures even { folded (signal_of kind.Boolean combine.Xor) (pos 1) (pos 1 ∷ pos 1 ∷ []) ≡ pos 0 }
 {}
 
+/// At the kind `long` emissions are combined in all 64 bits.
+pub fn long_emissions_are_combined()
+    ensures add { folded (signal_of kind.Long combine.Add) (pos 0)
+        (pos 4294967297 ∷ pos 4294967298 ∷ []) ≡ pos 8589934595 }
+    ensures add_wraps { folded (signal_of kind.Long combine.Add) (pos 0)
+        (pos 9223372036854775807 ∷ pos 4294967296 ∷ []) ≡ negsuc 9223372032559808512 }
+    ensures greatest { folded (signal_of kind.Long combine.Max) (pos 0)
+        (pos 8589934593 ∷ pos 4294967298 ∷ []) ≡ pos 8589934593 }
+    ensures least { folded (signal_of kind.Long combine.Min) (pos 0)
+        (pos 8589934593 ∷ pos 4294967298 ∷ []) ≡ pos 4294967298 }
+    ensures bits_and { folded (signal_of kind.Long combine.And) (pos 0)
+        (pos 12884901902 ∷ pos 8589934603 ∷ []) ≡ pos 8589934602 }
+    ensures bits_or { folded (signal_of kind.Long combine.Or) (pos 0)
+        (pos 4294967297 ∷ pos 8589934594 ∷ []) ≡ pos 12884901891 }
+    ensures bits_xor { folded (signal_of kind.Long combine.Xor) (pos 0)
+        (pos 12884901889 ∷ pos 4294967299 ∷ []) ≡ pos 8589934594 }
+{}
+
 /// The emissions of one signal, and those of all others.
 pub fn emissions_are_told_apart()
     ensures emitted { is_emitted some_emissions 2 ≡ true }

@@ -15,7 +15,7 @@ ghost use Rattle.kernel_rules.specs.Rows.{int};
 ghost use Rattle.kernel_rules.specs.Worked.Variables.{assigned_twice, summed_up, two_pauses};
 ghost use Rattle.kernel_rules.specs.Worked.Variables.{branched, truth, asked, counted, then_shown};
 ghost use Rattle.kernel_rules.specs.Worked.Variables.{made_false, made_true, asked_for_absence};
-ghost use Rattle.kernel_rules.specs.Worked.Variables.{assigns_beside, both_assign};
+ghost use Rattle.kernel_rules.specs.Worked.Variables.{assigns_beside, both_assign, second_assigns};
 ghost use Rattle.kernel_rules.specs.Worked.Variables.{beside_then_shown, assigns_and_pauses};
 ghost use Rattle.kernel_rules.specs.Worked.Variables.{pauses_twice, may_assign};
 ghost use Rattle.kernel_rules.specs.Worked.Variables.{forms_around, forms_alone};
@@ -156,6 +156,54 @@ pub fn parallel_joins_variables()
         (ends (emitted 0 1 ∷ emitted 1 2 ∷ []) ∷ ends [] ∷ []) }
     ensures both_at_exit { Shows no_tables (both_assign (Exit 0) Pause) (ends (emitted 1 1 ∷ []) ∷ []) }
     ensures both_at_second_exit { Shows no_tables (both_assign Pause (Exit 0)) (ends (emitted 1 1 ∷ []) ∷ []) }
+    ensures both_pause { Shows no_tables (both_assign Pause Pause) (pauses [] ∷ ends (emitted 1 1 ∷ []) ∷ []) }
+    ensures both_exit { Shows no_tables (both_assign (Exit 0) (Exit 0)) (ends (emitted 1 1 ∷ []) ∷ []) }
+    ensures unassigned_pause { Shows no_tables (second_assigns Pause Pause)
+        (pauses [] ∷ ends (emitted 1 0 ∷ []) ∷ []) }
+    ensures unassigned_exit { Shows no_tables (second_assigns (Exit 0) (Exit 0)) (ends (emitted 1 0 ∷ []) ∷ []) }
+    ensures unassigned_at_exit { Shows no_tables (second_assigns (Exit 0) Pause) (ends (emitted 1 0 ∷ []) ∷ []) }
+    ensures unassigned_at_second_exit { Shows no_tables (second_assigns Pause (Exit 0))
+        (ends (emitted 1 0 ∷ []) ∷ []) }
+{}
+
+/// The same where one branch has ended and the other pauses or exits, each with a variable of its own.
+pub fn ended_branch_keeps_its_variables()
+    ensures before_pause { Shows no_tables (assigns_beside Nothing Pause)
+        (pauses [] ∷ ends (emitted 0 1 ∷ emitted 1 2 ∷ []) ∷ []) }
+    ensures beside_pause { Shows no_tables (assigns_beside Pause Nothing)
+        (pauses [] ∷ ends (emitted 0 1 ∷ emitted 1 2 ∷ []) ∷ []) }
+    ensures before_exit { Shows no_tables (assigns_beside Nothing (Exit 0))
+        (ends (emitted 0 1 ∷ emitted 1 2 ∷ []) ∷ ends [] ∷ []) }
+    ensures beside_exit { Shows no_tables (assigns_beside (Exit 0) Nothing)
+        (ends (emitted 0 1 ∷ emitted 1 2 ∷ []) ∷ ends [] ∷ []) }
+    ensures before_later { Shows no_tables (assigns_beside Nothing (Seq Pause (assign 1 3)))
+        (pauses [] ∷ ends (emitted 0 1 ∷ emitted 1 3 ∷ []) ∷ []) }
+    ensures beside_later { Shows no_tables (assigns_beside (Seq Pause (assign 0 3)) Nothing)
+        (pauses [] ∷ ends (emitted 0 3 ∷ emitted 1 2 ∷ []) ∷ []) }
+{}
+
+/// The same where both may assign one variable. What has ended assigns nothing in a later tick.
+pub fn ended_branch_shares_a_variable()
+    ensures before_pause { Shows no_tables (both_assign Nothing Pause)
+        (pauses [] ∷ ends (emitted 1 1 ∷ []) ∷ []) }
+    ensures beside_pause { Shows no_tables (both_assign Pause Nothing)
+        (pauses [] ∷ ends (emitted 1 1 ∷ []) ∷ []) }
+    ensures before_exit { Shows no_tables (both_assign Nothing (Exit 0))
+        (ends (emitted 1 1 ∷ []) ∷ []) }
+    ensures beside_exit { Shows no_tables (both_assign (Exit 0) Nothing)
+        (ends (emitted 1 1 ∷ []) ∷ []) }
+    ensures unassigned_before_pause { Shows no_tables (second_assigns Nothing Pause)
+        (pauses [] ∷ ends (emitted 1 0 ∷ []) ∷ []) }
+    ensures unassigned_beside_pause { Shows no_tables (second_assigns Pause Nothing)
+        (pauses [] ∷ ends (emitted 1 0 ∷ []) ∷ []) }
+    ensures unassigned_before_exit { Shows no_tables (second_assigns Nothing (Exit 0))
+        (ends (emitted 1 0 ∷ []) ∷ []) }
+    ensures unassigned_beside_exit { Shows no_tables (second_assigns (Exit 0) Nothing)
+        (ends (emitted 1 0 ∷ []) ∷ []) }
+    ensures before_later { Shows no_tables (both_assign Nothing (Seq Pause (assign 0 3)))
+        (pauses [] ∷ ends (emitted 1 3 ∷ []) ∷ []) }
+    ensures beside_later { Shows no_tables (both_assign (Seq Pause (assign 0 3)) Nothing)
+        (pauses [] ∷ ends (emitted 1 3 ∷ []) ∷ []) }
 {}
 
 /// A statement may assign the variables that an assignment in it names, and no others.

@@ -18,8 +18,15 @@ weight_of_some (Some p) = weight_of_shape p
 abbrev pub nowhere : ℕ → ℕ
 nowhere n = 0
 
+-- of a statement's starting tree and of its resuming tree, where it has one
+abbrev pub starting_weight : Stmt → ℕ
+starting_weight p = weight_of_shape (starting_shape nowhere 0 p)
+
+abbrev pub resuming_weight : Stmt → ℕ
+resuming_weight p = weight_of_some (resuming_shape nowhere 0 p)
+
 abbrev pub weight_of : Stmt → ℕ
-weight_of p = weight_of_shape (starting_shape nowhere 0 p) + weight_of_some (resuming_shape nowhere 0 p)
+weight_of p = starting_weight p + resuming_weight p
 
 abbrev pub most_weight : ℕ
 most_weight = 100000

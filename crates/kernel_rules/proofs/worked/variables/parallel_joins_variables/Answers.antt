@@ -34,3 +34,21 @@ returns-clause-second_ended c = shows _ _ _ _ _ refl
 
 pub returns-clause-second_of_ended : goal.returns-clause-second_of_ended
 returns-clause-second_of_ended c = shows _ _ _ _ _ refl
+
+pub returns-clause-both_pause : goal.returns-clause-both_pause
+returns-clause-both_pause c = shows _ _ _ _ _ refl
+
+pub returns-clause-both_exit : goal.returns-clause-both_exit
+returns-clause-both_exit c = shows _ _ _ _ _ refl
+
+pub returns-clause-unassigned_pause : goal.returns-clause-unassigned_pause
+returns-clause-unassigned_pause c = shows _ _ _ _ _ refl
+
+pub returns-clause-unassigned_exit : goal.returns-clause-unassigned_exit
+returns-clause-unassigned_exit c = shows _ _ _ _ _ refl
+
+pub returns-clause-unassigned_at_exit : goal.returns-clause-unassigned_at_exit
+returns-clause-unassigned_at_exit c = shows _ _ _ _ _ refl
+
+pub returns-clause-unassigned_at_second_exit : goal.returns-clause-unassigned_at_second_exit
+returns-clause-unassigned_at_second_exit c = shows _ _ _ _ _ refl
