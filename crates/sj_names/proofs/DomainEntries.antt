@@ -11,23 +11,23 @@ use Rattle.sj_ast.specs.declared.statement.Form.{Form}
 use Rattle.sj_ast.specs.declared.statement.Block.{Block}
 use Rattle.sj_ast.specs.declared.statement.Stmt.{Stmt}
 use Rattle.sj_ast.specs.declared.statement.Form.TheOpen.{Form-F, Block-F, Stmt-F}
-use Rattle.sj_ast.specs.declared.statement.Form.TheFolds.{fold-Form, fold-roll-Form, fold-roll-Block, fold-roll-Stmt, ind-Block}
+use Rattle.sj_ast.specs.declared.statement.Form.TheFolds.{fold-Form, fold-roll-Form, fold-roll-Block, fold-roll-Stmt, ind-Block, ind-Stmt}
 use Rattle.sj_names.specs.declared.mention.Mention.{Mention}
 use Rattle.sj_names.specs.definitions.Mentions.{Part, silent, then, in_order, closed, expression_mentions, test_mentions, read, read_where_given, form_layer, block_layer, stmt_layer, block_part, stmt_part}
 use Rattle.sj_names.specs.definitions.DeclaredTables.{Declared, nothing, both, all, declared_form_layer, declared_block_layer, declared_stmt_layer, declared_form, declared_block, declared_stmt}
 use Rattle.sj_names.proofs.EntryLemmas.{emit_read, send_read, receive_read, exit_read, variable_read, raw_read, tests_read}
 use Rattle.sj_names.proofs.PartEntries.{Declares, declares_read, declares_silent, declares_then, declares_behind, declares_before, declares_closed, declares_signal, declares_trap, declares_variable}
 
-abbrev SourceForm : Type 0
+abbrev pub SourceForm : Type 0
 SourceForm = Form Name (Raw Name)
 
-abbrev SourceBlock : Type 0
+abbrev pub SourceBlock : Type 0
 SourceBlock = Block Name (Raw Name)
 
-abbrev SourceStmt : Type 0
+abbrev pub SourceStmt : Type 0
 SourceStmt = Stmt Name (Raw Name)
 
-abbrev form_part : SourceForm → Part
+abbrev pub form_part : SourceForm → Part
 form_part = fold-Form Name (Raw Name) Part Part Part form_layer block_layer stmt_layer
 
 map_twice : {X Y Z : Type 0} (f : X → Y) (g : Y → Z) (xs : List X) → map g (map f xs) ≡ map (λ x. g (f x)) xs
@@ -192,4 +192,9 @@ module _ (t : Tables) (ns : List (List Mention)) (d : ℕ) where
   pub block_declares : (b : SourceBlock) → Declares t ns d (block_part b) (declared_block d b)
   block_declares =
       ind-Block Name (Raw Name) OfForm OfBlock OfStmt (λ x y is. subst (λ z. OfForm (form.roll-Form Name (Raw Name) z)) is (form_of y)) (λ x y is. subst (λ z. OfBlock (block.roll-Block Name (Raw Name) z)) is (block_of y))
+      (λ x y is. subst (λ z. OfStmt (stmt.roll-Stmt Name (Raw Name) z)) is (stmt_of y))
+
+  pub stmt_declares : (s : SourceStmt) → Declares t ns d (stmt_part s) (declared_stmt d s)
+  stmt_declares =
+      ind-Stmt Name (Raw Name) OfForm OfBlock OfStmt (λ x y is. subst (λ z. OfForm (form.roll-Form Name (Raw Name) z)) is (form_of y)) (λ x y is. subst (λ z. OfBlock (block.roll-Block Name (Raw Name) z)) is (block_of y))
       (λ x y is. subst (λ z. OfStmt (stmt.roll-Stmt Name (Raw Name) z)) is (stmt_of y))

@@ -15,3 +15,7 @@ pub mod PortEntries
 pub mod SoundLemmas
 pub mod SoundLimits
 pub mod SoundNames
+pub mod FitValues
+pub mod FitParts
+pub mod FitForms
+pub mod FitTrees

@@ -148,10 +148,10 @@ declares_silent t ns d = record {
   entries = λ s h a b v. record { mentions = no_entries t ns d; visible = v };
 }
 
-first_sound : (xs ys : List Mention) → flat_map own_failures (xs ++ ys) ≡ [] → flat_map own_failures xs ≡ []
+pub first_sound : (xs ys : List Mention) → flat_map own_failures (xs ++ ys) ≡ [] → flat_map own_failures xs ≡ []
 first_sound xs ys h = empty_first (flat_map own_failures xs) (flat_map own_failures ys) (sym (flat_map-append own_failures xs ys) ∙ h)
 
-second_sound : (xs ys : List Mention) → flat_map own_failures (xs ++ ys) ≡ [] → flat_map own_failures ys ≡ []
+pub second_sound : (xs ys : List Mention) → flat_map own_failures (xs ++ ys) ≡ [] → flat_map own_failures ys ≡ []
 second_sound xs ys h = empty_second (flat_map own_failures xs) (flat_map own_failures ys) (sym (flat_map-append own_failures xs ys) ∙ h)
 
 counts_then : (D E : Declared) (s : Scope) (u w : Told) → CountsFit D s u → CountsFit E u.scope w → CountsFit (both D E) s (record { scope = w.scope; mentions = u.mentions ++ w.mentions })
@@ -239,7 +239,7 @@ and_true true true false x y z = absurd (cc)
 and_true true false c x y z = absurd (cc)
 and_true false b c x y z = absurd (cc)
 
-local_entry : (t : Tables) (d n : ℕ) (signal : Signal Name) → StandsAt (signal_info table_sort.Local d signal ∷ []) t.signals n → is_local_of t d n ≡ true
+pub local_entry : (t : Tables) (d n : ℕ) (signal : Signal Name) → StandsAt (signal_info table_sort.Local d signal ∷ []) t.signals n → is_local_of t d n ≡ true
 local_entry t d n signal s =
     let r = entry_there t.signals n (signal_info table_sort.Local d signal) no_signal s.behind s.is in
     and_true (nat_lt n (length t.signals)) (is_local (signal_at t n).sort) ((signal_at t n).domain == d) r.0 (ap (λ (i : SignalInfo). is_local i.sort) r.1) (ap (λ (i : SignalInfo). i.domain == d) r.1 ∙ is_itself d)

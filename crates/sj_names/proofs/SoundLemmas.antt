@@ -124,26 +124,24 @@ ports_of_tree tree h =
     ports_fit (tables_of_tree tree) (names_of_tree tree).domains no_names 0 0 tree.ports (no_failure (names_of_tree tree) h).ports refl refl (record { behind = (declared_domains 0 tree.domains).signals; is = refl })
     (record { behind = []; is = sym (append-nil (port_channels (names_of_tree tree).domains 0 tree.ports)) }) tt
 
+-- what the domains declare stands behind what the interface does
+pub locals_stand : (tree : SourceTree) → failures_of (names_of_tree tree) ≡ [] → StandsAt (declared_domains 0 tree.domains).signals (tables_of_tree tree).signals (interface_names tree).scope.counts.signals
+locals_stand tree h =
+    stands_second (port_signals (names_of_tree tree).domains 0 tree.ports) (declared_domains 0 tree.domains).signals (tables_of_tree tree).signals 0 (interface_names tree).scope.counts.signals (ports_of_tree tree h).signals
+    (record { behind = []; is = sym (append-nil (tables_of_tree tree).signals) })
+
+pub variables_stand : (tree : SourceTree) → failures_of (names_of_tree tree) ≡ [] → StandsAt (declared_domains 0 tree.domains).variables (tables_of_tree tree).variables (interface_names tree).scope.counts.variables
+variables_stand tree h = subst (StandsAt (declared_domains 0 tree.domains).variables (tables_of_tree tree).variables) (sym (ports_of_tree tree h).variables) (record { behind = []; is = sym (append-nil (declared_domains 0 tree.domains).variables) })
+
 pub names_sound : (tree : SourceTree) → failures_of (names_of_tree tree) ≡ [] → are_sound (tables_of_tree tree) 0 (names_of_tree tree).domains ≡ true
 names_sound tree h = are_sound_all (tables_of_tree tree) 0 (names_of_tree tree).domains (λ d ms s. all_names (is_sound (tables_of_tree tree) d) ms (λ m i. each d ms m s i))
   where
     none : HasNoFailure (names_of_tree tree)
     none = no_failure (names_of_tree tree) h
 
-    ports : PortsFit (tables_of_tree tree) (names_of_tree tree).domains no_names 0 0 tree.ports (interface_names tree)
-    ports = ports_of_tree tree h
-
-    locals : StandsAt (declared_domains 0 tree.domains).signals (tables_of_tree tree).signals (interface_names tree).scope.counts.signals
-    locals =
-        stands_second (port_signals (names_of_tree tree).domains 0 tree.ports) (declared_domains 0 tree.domains).signals (tables_of_tree tree).signals 0 (interface_names tree).scope.counts.signals ports.signals
-        (record { behind = []; is = sym (append-nil (tables_of_tree tree).signals) })
-
-    variables : StandsAt (declared_domains 0 tree.domains).variables (tables_of_tree tree).variables (interface_names tree).scope.counts.variables
-    variables = subst (StandsAt (declared_domains 0 tree.domains).variables (tables_of_tree tree).variables) (sym ports.variables) (record { behind = []; is = sym (append-nil (declared_domains 0 tree.domains).variables) })
-
     each : (d : ℕ) (ms : List Mention) (m : Mention) → Stands 0 d ms (names_of_tree tree).domains → IsIn m ms → is_sound (tables_of_tree tree) d m ≡ true
     each d ms m s i =
-        let e = domains_entries (tables_of_tree tree) (names_of_tree tree).domains 0 (interface_names tree).scope tree.domains none.domains locals variables ports.visible d ms s in
+        let e = domains_entries (tables_of_tree tree) (names_of_tree tree).domains 0 (interface_names tree).scope tree.domains none.domains (locals_stand tree h) (variables_stand tree h) (ports_of_tree tree h).visible d ms s in
         let o = end_owner (names_of_tree tree).domains d ms m none.ends s i in
         name_sound (tables_of_tree tree) (names_of_tree tree).domains d m (nothing_of own_failures ms m (own_of (names_of_tree tree).domains 0 d ms none.domains s) i) (e.each m i)
         (record { signal = λ n u. signal_owner (names_of_tree tree).domains d n ms m none.shared s i u; sends = o.sends; receives = o.receives })

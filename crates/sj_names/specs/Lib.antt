@@ -2,7 +2,6 @@ pub mod definitions
 pub mod FoundNames
 pub mod VisibleNames
 pub mod ToldNames
-pub mod ReadNames
 pub mod FirstDomains
 pub mod DomainNames
 pub mod UsedHere

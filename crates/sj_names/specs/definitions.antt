@@ -5,3 +5,5 @@ pub mod NumberedTrees
 pub mod DeclaredTables
 pub mod Bindings
 pub mod SoundTables
+pub mod FittingTrees
+pub mod ReadNames

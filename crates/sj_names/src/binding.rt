@@ -1,22 +1,20 @@
-ghost use Rattle.std.specs.Prelude.{IfOk, IfErr};
-ghost use Rattle.sj_names.specs.definitions.Bindings.{IsBinding, IsWhyUnbound};
+ghost use Rattle.std.specs.Prelude.{◌≡◌, true};
+ghost use Rattle.sj_names.specs.definitions.FittingTrees.{fits_tree, entry_rules};
 
 use crate::entry::Entry;
 use crate::failure::Failure;
-use crate::numbering::numbered_tree;
-use crate::program::TreeNames;
-use crate::tables::tables_of_tree;
 use java_values::NoMemory;
 use kernel_terms::Tables;
-use sj_ast::{Name, Raw, Tree};
-use std::alloc::Global;
+use sj_ast::{Raw, Tree};
 use thiserror::Error;
 
-/// A tree with numbers in place of names, in expressions with entries, and the tables of them.
+/// A tree with numbers in place of names, in expressions with entries, and the tables of them. Each number names an entry
+/// of the tables that may be used where it stands.
 #[derive(Debug, Drop)]
 pub struct Bound {
     pub tree: Tree<u32, Raw<Entry>>,
     pub tables: Tables,
+    ghost fitting: { fits_tree tables (entry_rules tables) tree ≡ true },
 }
 
 /// Why a tree isn't bound.
@@ -32,25 +30,10 @@ pub enum BindError {
 
 impl From<NoMemory> for BindError {
     ghost use Rattle.sj_names.specs.declared.binding.BindError.TheVariants as error;
-    ghost use Rattle.std.specs.Prelude.{◌≡◌};
 
     ghost from_gives = { λ _ e. e ≡ error.NoMemory };
 
     fn from(_error: NoMemory) -> BindError {
         BindError::NoMemory
     }
-}
-
-/// The tree with numbers for its names, and its tables; or the first failure of its names.
-pub fn bind(alloc: Global, tree: &Tree<Name, Raw<Name>>) -> Result<Bound, BindError>
-    ensures bound { IfOk result (IsBinding tree.now) }
-    ensures why { IfErr result (IsWhyUnbound tree.now) }
-{
-    let names = TreeNames::read(alloc, tree)?;
-    if let Some(failure) = names.first_failure(alloc)? {
-        return Err(BindError::Failed(failure));
-    }
-    let tables = tables_of_tree(alloc, &names, tree)?;
-    let tree = numbered_tree(alloc, tree)?;
-    Ok(Bound { tree, tables })
 }

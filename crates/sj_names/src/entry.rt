@@ -1,4 +1,4 @@
-/// An entry of the tables.
+/// What a number in an expression names: the entry of the tables with that number, of this sort.
 #[derive(Clone, Copy, Debug, PartialEq, Eq)]
 pub enum Entry {
     Signal(u32),

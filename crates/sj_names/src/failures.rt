@@ -24,7 +24,7 @@ impl Least {
 }
 
 impl TreeNames {
-    ghost use Rattle.sj_names.specs.ReadNames.{tree_names_of};
+    ghost use Rattle.sj_names.specs.definitions.ReadNames.{tree_names_of};
 
     /// The first failure of the names, by place and then by kind, where there is one.
     pub fn first_failure(&self, alloc: Global) -> Result<Option<Failure>, NoMemory>

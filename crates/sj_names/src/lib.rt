@@ -1,6 +1,7 @@
 //! Names and their scopes: what each name of a source's tree stands for.
 #![tactic(auto)]
 
+mod bind_tree;
 mod binding;
 mod declared;
 mod domains;
@@ -23,14 +24,15 @@ mod statements;
 mod tables;
 mod uses;
 
-pub use binding::{BindError, Bound, bind};
+pub use bind_tree::bind;
+pub use binding::{BindError, Bound};
 pub use entry::Entry;
 pub use failure::{Failure, Fault};
 pub use mention::{Counts, Group, Meaning, Mention, Role, Sort, Use};
 pub use numbering::numbered_tree;
 pub use program::TreeNames;
 pub use rows::{small_interfaces, small_limits, small_name_failures, small_tables};
-pub use sound::{sound_interface, sound_names, sound_tables};
+pub use sound::{bound_trees_fit, fitting_names, sound_interface, sound_names, sound_tables};
 
 #[cfg(test)]
 mod tests;

@@ -7,10 +7,8 @@ use crate::failure::Fault;
 use crate::least::Least;
 use crate::mention::{Group, Mention, Role};
 use java_values::NoMemory;
-use kernel_terms::MOST_SIGNALS;
+use kernel_terms::{MOST_SIGNALS, MOST_VARIABLES};
 use std::alloc::Global;
-
-const MOST_VARIABLES: usize = 1024;
 
 impl Mention {
     /// Whether a name of this group is declared.

@@ -69,7 +69,7 @@ fn port_names<'a>(alloc: Global, tree: &'a Tree<Name, Raw<Name>>) -> Result<Part
 }
 
 impl TreeNames {
-    ghost use Rattle.sj_names.specs.ReadNames.{tree_names_of};
+    ghost use Rattle.sj_names.specs.definitions.ReadNames.{tree_names_of};
 
     /// Reads the names of the tree.
     pub fn read(alloc: Global, tree: &Tree<Name, Raw<Name>>) -> Result<TreeNames, NoMemory>

@@ -8,7 +8,10 @@ ghost use Rattle.sj_names.specs.definitions.Mentions.{names_of_tree};
 ghost use Rattle.sj_names.specs.definitions.Failures.{failures_of};
 ghost use Rattle.sj_names.specs.definitions.DeclaredTables.{tables_of_tree};
 ghost use Rattle.sj_names.specs.definitions.SoundTables.{port_name, has_domain, are_sound};
+ghost use Rattle.sj_names.specs.definitions.NumberedTrees.{numbered_tree};
+ghost use Rattle.sj_names.specs.definitions.FittingTrees.{fits_tree, entry_rules};
 
+use crate::binding::Bound;
 use sj_ast::{Name, Raw, Tree};
 
 /// The names of the domains stand for entries of the tables that they may use in their roles.
@@ -34,4 +37,15 @@ pub fn sound_interface(tree: &Tree<Name, Raw<Name>>)
     requires sound { failures_of (names_of_tree tree.now) ≡ [] }
     requires named { list_all is_name (map port_name tree.now.ports) ≡ true }
     ensures { has_names (tables_of_tree tree.now) ≡ true }
+{}
+
+/// The numbers of the tree name entries of its tables that may be used where they stand.
+pub fn fitting_names(tree: &Tree<Name, Raw<Name>>)
+    requires sound { failures_of (names_of_tree tree.now) ≡ [] }
+    ensures { fits_tree (tables_of_tree tree.now) (entry_rules (tables_of_tree tree.now)) (numbered_tree tree.now) ≡ true }
+{}
+
+/// The numbers of a bound tree name entries of its tables that may be used where they stand.
+pub fn bound_trees_fit(bound: &Bound)
+    ensures { fits_tree bound.now.tables (entry_rules bound.now.tables) bound.now.tree ≡ true }
 {}

@@ -3,7 +3,7 @@ ghost use Rattle.sj_ast.specs.declared.port.Port.TheVariants as port_is;
 ghost use Rattle.sj_names.specs.definitions.DeclaredTables.{first_domain, sort_of, port_signals, port_channels, tables_of_tree};
 ghost use Rattle.sj_names.specs.definitions.Mentions.{names_of_tree};
 ghost use Rattle.sj_names.specs.DomainNames.{names_in};
-ghost use Rattle.sj_names.specs.ReadNames.{tree_names_of};
+ghost use Rattle.sj_names.specs.definitions.ReadNames.{tree_names_of};
 
 use crate::declared::{Declarations, signal_info};
 use crate::domains::Domains;

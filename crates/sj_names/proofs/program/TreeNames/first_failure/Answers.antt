@@ -4,7 +4,7 @@ use Rattle.kernel_terms.specs.Limits.{most_domains, most_channels}
 use Rattle.sj_names.specs.declared.mention.Group.TheVariants as group
 use Rattle.sj_names.specs.declared.mention.Mention.{Mention}
 use Rattle.sj_names.specs.definitions.Failures.{is_in, least_of, own_failures, shared_failures, end_failures, unjoined_failures, places_of, too_many, domain_limit_failures, failures_of}
-use Rattle.sj_names.specs.ReadNames.{tree_names_of}
+use Rattle.sj_names.specs.definitions.ReadNames.{tree_names_of}
 use Rattle.sj_names.specs.FirstDomains.{lists}
 use Rattle.sj_names.specs.DomainNames.{names_in}
 use Rattle.sj_names.proofs.LeastLemmas.{least_of_parts}

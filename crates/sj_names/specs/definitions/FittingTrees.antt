@@ -1,0 +1,160 @@
+-- Whether the numbers of a tree name entries of the tables that may be used where they stand.
+use Rattle.std.specs.Prelude.{ℕ, suc, Bool, true, ◌&&◌, List, [], ◌∷◌, length, Option, Some, None}
+use Rattle.java_values.specs.declared.kind.Kind.{Kind}
+use Rattle.java_values.specs.declared.kind.Kind.TheVariants as kind
+use Rattle.kernel_terms.specs.declared.tables.Tables.{Tables}
+use Rattle.kernel_terms.specs.TableEntries.{signal_at, channel_at, variable_at}
+use Rattle.kernel_terms.specs.WellFormed as terms
+use Rattle.kernel_terms.specs.WellFormed.{can_use, can_emit, is_variable_of, is_sender_of, is_receiver_of, is_local_of, same_kind, stands_in}
+use Rattle.sj_ast.specs.declared.expression.Raw.{Raw}
+use Rattle.sj_ast.specs.declared.expression.Raw.TheOpen.{Raw-F}
+use Rattle.sj_ast.specs.declared.expression.Raw.TheFolds.{fold-Raw}
+use Rattle.sj_ast.specs.declared.test.Test.{Test}
+use Rattle.sj_ast.specs.declared.test.Test.TheOpen.{Test-F}
+use Rattle.sj_ast.specs.declared.test.Test.TheFolds.{fold-Test}
+use Rattle.sj_ast.specs.declared.statement.Form.{Form}
+use Rattle.sj_ast.specs.declared.statement.Form.TheOpen.{Form-F, Block-F, Stmt-F}
+use Rattle.sj_ast.specs.declared.statement.Form.TheFolds.{fold-Form, fold-Block, fold-Stmt}
+use Rattle.sj_ast.specs.declared.statement.Block.{Block}
+use Rattle.sj_ast.specs.declared.statement.Stmt.{Stmt}
+use Rattle.sj_ast.specs.declared.statement.Tree.{Tree}
+use Rattle.sj_names.specs.declared.entry.Entry.{Entry}
+use Rattle.sj_names.specs.declared.entry.Entry.TheVariants as entry
+
+-- the domain in which a part stands, the traps around it, and the local signals that are visible there, innermost first
+pub record Around : Type 0 where
+  pub domain : ℕ
+  pub traps : List ℕ
+  pub locals : List ℕ
+
+abbrev pub scope_of : Around → terms.Scope
+scope_of a = record { domain = a.domain; traps = length a.traps; locals = a.locals }
+
+abbrev pub in_trap : ℕ → Around → Around
+in_trap n a = record { domain = a.domain; traps = n ∷ a.traps; locals = a.locals }
+
+abbrev pub with_local : ℕ → Around → Around
+with_local n a = record { domain = a.domain; traps = a.traps; locals = n ∷ a.locals }
+
+-- at the start of a domain
+abbrev pub at_start : ℕ → Around
+at_start d = record { domain = d; traps = []; locals = [] }
+
+-- What is asked of a value: of one that is emitted, for a signal of this kind or a pure one, and of one that is given to a
+-- kind.
+pub record ValueRules (E : Type 0) : Type 0 where
+  pub emitted : terms.Scope → Option Kind → Option E → Bool
+  pub given : terms.Scope → Kind → E → Bool
+
+-- whether a part fits, and what is around the part behind it
+pub record Fitted : Type 0 where
+  pub fits : Bool
+  pub around : Around
+
+abbrev pub Part : Type 0
+Part = Around → Fitted
+
+-- a part that declares nothing
+abbrev pub alone : Bool → Part
+alone fits a = record { fits = fits; around = a }
+
+abbrev pub blocks_fit : List Part → Around → Bool
+blocks_fit [] a = true
+blocks_fit (b ∷ bs) a = (b a).fits && blocks_fit bs a
+
+abbrev pub stmts_fit : List Part → Around → Bool
+stmts_fit [] a = true
+stmts_fit (s ∷ ss) a = (s a).fits && stmts_fit ss (s a).around
+
+abbrev pub other_fits : Option Part → Around → Bool
+other_fits None a = true
+other_fits (Some b) a = (b a).fits
+
+abbrev pub fits_test_layer : Tables → terms.Scope → Test-F ℕ Bool → Bool
+fits_test_layer t scope (Test-F.Signal at s) = can_use t scope s
+fits_test_layer t scope (Test-F.Not at u) = u
+fits_test_layer t scope (Test-F.Group at u) = u
+fits_test_layer t scope (Test-F.Both at u v) = u && v
+fits_test_layer t scope (Test-F.Either at u v) = u && v
+
+abbrev pub fits_test : Tables → terms.Scope → Test ℕ → Bool
+fits_test t scope = fold-Test ℕ Bool (fits_test_layer t scope)
+
+-- a declared variable's entry is its own
+abbrev pub is_declared_variable : Tables → ℕ → Kind → ℕ → Bool
+is_declared_variable t d k x = is_variable_of t d x && same_kind (variable_at t x).kind k
+
+module _ (t : Tables) {E : Type 0} (rules : ValueRules E) where
+  abbrev pub form_fits : Form-F ℕ E Part Part Part → Part
+  form_fits Form-F.Empty a = alone true a
+  form_fits (Form-F.Par first others) a = alone ((first a).fits && blocks_fit others a) a
+  form_fits Form-F.Pause a = alone true a
+  form_fits Form-F.Halt a = alone true a
+  form_fits (Form-F.Emit at s value) a = alone (can_emit t (scope_of a) s && rules.emitted (scope_of a) (signal_at t s).kind value) a
+  form_fits (Form-F.Sustain at s value) a = alone (can_emit t (scope_of a) s && rules.emitted (scope_of a) (signal_at t s).kind value) a
+  form_fits (Form-F.Declare signal) a = record { fits = is_local_of t a.domain signal.name; around = with_local signal.name a }
+  form_fits (Form-F.Variable k at x value) a = alone (is_declared_variable t a.domain k x && rules.given (scope_of a) k value) a
+  form_fits (Form-F.Assign at x value) a = alone (is_variable_of t a.domain x && rules.given (scope_of a) (variable_at t x).kind value) a
+  form_fits (Form-F.Update at x sign_at op value) a = alone (is_variable_of t a.domain x && rules.given (scope_of a) (variable_at t x).kind value) a
+  form_fits (Form-F.If cond first other) a = alone (rules.given (scope_of a) kind.Boolean cond && ((first a).fits && other_fits other a)) a
+  form_fits (Form-F.Present test first other) a = alone (fits_test t (scope_of a) test && ((first a).fits && other_fits other a)) a
+  form_fits (Form-F.While body) a = alone (body a).fits a
+  form_fits (Form-F.Abort weak immediate test body) a = alone (fits_test t (scope_of a) test && (body a).fits) a
+  form_fits (Form-F.Suspend immediate test body) a = alone (fits_test t (scope_of a) test && (body a).fits) a
+  form_fits (Form-F.Trap at n body) a = alone (body (in_trap n a)).fits a
+  form_fits (Form-F.Exit at n) a = alone (stands_in n a.traps) a
+  form_fits (Form-F.Send at c value) a = alone (is_sender_of t a.domain c && rules.given (scope_of a) (channel_at t c).kind value) a
+  form_fits (Form-F.Receive at c) a = alone (is_receiver_of t a.domain c) a
+  form_fits (Form-F.Await immediate test) a = alone (fits_test t (scope_of a) test) a
+  form_fits (Form-F.Every immediate test body) a = alone (fits_test t (scope_of a) test && (body a).fits) a
+  form_fits (Form-F.Loop body test) a = alone ((body a).fits && fits_test t (scope_of a) test) a
+
+  abbrev pub block_fits : Block-F ℕ E Part Part Part → Part
+  block_fits b a = alone (stmts_fit b.statements a) a
+
+  abbrev pub stmt_fits : Stmt-F ℕ E Part Part Part → Part
+  stmt_fits s = s.form
+
+  abbrev pub fits_form : Form ℕ E → Part
+  fits_form = fold-Form ℕ E Part Part Part form_fits block_fits stmt_fits
+
+  abbrev pub fits_block : Block ℕ E → Part
+  fits_block = fold-Block ℕ E Part Part Part form_fits block_fits stmt_fits
+
+  abbrev pub fits_stmt : Stmt ℕ E → Part
+  fits_stmt = fold-Stmt ℕ E Part Part Part form_fits block_fits stmt_fits
+
+  -- the domains, by rising number
+  abbrev pub fit_domains : ℕ → List (Block ℕ E) → Bool
+  fit_domains d [] = true
+  fit_domains d (b ∷ bs) = (fits_block b (at_start d)).fits && fit_domains (suc d) bs
+
+  abbrev pub fits_tree : Tree ℕ E → Bool
+  fits_tree tree = fit_domains 0 tree.domains
+
+-- Of an expression with entries it is asked that it may use each of them, whatever it is given to.
+
+abbrev pub is_entry : Tables → terms.Scope → Entry → Bool
+is_entry t scope (entry.Signal s) = can_use t scope s
+is_entry t scope (entry.Channel c) = is_receiver_of t scope.domain c
+is_entry t scope (entry.Variable x) = is_variable_of t scope.domain x
+
+abbrev pub fits_raw_layer : Tables → terms.Scope → Raw-F Entry Bool → Bool
+fits_raw_layer t scope (Raw-F.Literal at v) = true
+fits_raw_layer t scope (Raw-F.Least at v) = true
+fits_raw_layer t scope (Raw-F.Variable at n) = is_entry t scope n
+fits_raw_layer t scope (Raw-F.Status at name_at n) = is_entry t scope n
+fits_raw_layer t scope (Raw-F.Unary at op e) = e
+fits_raw_layer t scope (Raw-F.Cast at k e) = e
+fits_raw_layer t scope (Raw-F.Group at e) = e
+fits_raw_layer t scope (Raw-F.Binary at op l r) = l && r
+
+abbrev pub uses_entries : Tables → terms.Scope → Raw Entry → Bool
+uses_entries t scope = fold-Raw Entry Bool (fits_raw_layer t scope)
+
+abbrev pub value_uses_entries : Tables → terms.Scope → Option (Raw Entry) → Bool
+value_uses_entries t scope None = true
+value_uses_entries t scope (Some e) = uses_entries t scope e
+
+abbrev pub entry_rules : Tables → ValueRules (Raw Entry)
+entry_rules t = record { emitted = λ scope k value. value_uses_entries t scope value; given = λ scope k e. uses_entries t scope e }
