@@ -1,9 +1,9 @@
 -- The first failure of a check.
-use Rattle.std.proofs.Common.{◌≡◌, List, [], ◌∷◌, ◌++◌, Option, Some, None, ap, sym, ◌∙◌, refl}
+use Rattle.std.proofs.Common.{◌≡◌, List, [], ◌∷◌, ◌++◌, Some, ap, ◌∙◌}
 use Rattle.java_types.specs.declared.failure.TypeFailure.{TypeFailure}
 use Rattle.java_types.specs.declared.failure.TypeError.{TypeError}
 use Rattle.java_types.specs.declared.failure.TypeError.TheVariants as error
-use Rattle.java_types.specs.definitions.Checks.{Checked, fine, after, then, where_value, first_of, IsFirst, map1, map2}
+use Rattle.java_types.specs.definitions.Checks.{Checked, then, where_value, first_of, IsFirst, map2}
 
 first_before : (fs gs : List TypeFailure) (f : TypeFailure) → first_of fs ≡ Some f → first_of (fs ++ gs) ≡ Some f
 first_before (g ∷ fs) gs f h = h

@@ -1,5 +1,5 @@
 -- Where the right operand of an operator fails, so does the whole.
-use Rattle.std.proofs.Common.{◌≡◌, ℕ, [], ap, sym, ◌∙◌}
+use Rattle.std.proofs.Common.{◌≡◌, ℕ, ap, sym, ◌∙◌}
 use Rattle.java_values.specs.declared.op.Op2.{Op2}
 use Rattle.kernel_terms.specs.declared.tables.Tables.{Tables}
 use Rattle.sj_ast.specs.declared.expression.Raw as raw
@@ -8,7 +8,6 @@ use Rattle.sj_ast.specs.declared.expression.Raw.TheFolds.{fold-roll-Raw}
 use Rattle.sj_ast.specs.declared.expression.Raw.TheVariants.{rolls-Binary}
 use Rattle.sj_names.specs.declared.entry.Entry.{Entry}
 use Rattle.java_types.specs.declared.failure.TypeError.{TypeError}
-use Rattle.java_types.specs.declared.expressions.Operands.{Operands}
 use Rattle.java_types.specs.declared.operand.Operand.{Operand}
 use Rattle.java_types.specs.definitions.Checks.{Checked, fine, map2, then, IsFirst}
 use Rattle.java_types.specs.definitions.Operands.{operands, binary_operand, checked_layer, checked_expression}

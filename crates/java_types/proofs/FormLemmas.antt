@@ -1,5 +1,5 @@
 -- Forms that have no expression, and where a condition or a block behind it fails.
-use Rattle.std.proofs.Common.{◌≡◌, ℕ, Bool, [], Option, ap, sym, ◌∙◌}
+use Rattle.std.proofs.Common.{◌≡◌, ℕ, Bool, Option, ap, sym, ◌∙◌}
 use Rattle.kernel_terms.specs.declared.expr.Expr.{Expr}
 use Rattle.kernel_terms.specs.declared.tables.Tables.{Tables}
 use Rattle.sj_ast.specs.declared.expression.Raw.{Raw}

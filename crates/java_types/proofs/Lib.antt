@@ -1,3 +1,7 @@
+pub mod FittingForms
+pub mod CheckParts
+pub mod TypedExpressions
+pub mod LiteralLemmas
 pub mod EntryLemmas
 pub mod CheckLemmas
 pub mod ListLemmas

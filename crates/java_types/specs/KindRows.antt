@@ -1,5 +1,5 @@
 -- Operands at small places, and what is expected of them.
-use Rattle.std.specs.Prelude.{ℕ, ℤ, Option, Some, None, List, [], ◌∷◌}
+use Rattle.std.specs.Prelude.{ℤ, Some, List}
 use Rattle.java_values.specs.declared.kind.Kind.{Kind}
 use Rattle.java_values.specs.Kinds.{TypedNumber}
 use Rattle.kernel_terms.specs.declared.expr.Expr as expr

@@ -4,3 +4,4 @@ pub mod Operands
 pub mod Conversions
 pub mod TypedTrees
 pub mod Typings
+pub mod FittingKinds

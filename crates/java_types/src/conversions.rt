@@ -2,7 +2,7 @@ ghost use Rattle.std.specs.Prelude.{◌≡◌, ◌||◌, MatchResult, IfOk, neg_
 ghost use Rattle.java_values.specs.Kinds.{is_widened};
 ghost use Rattle.kernel_terms.specs.WellFormed.{same_kind};
 ghost use Rattle.java_types.specs.definitions.Checks.{fine, IsFirst};
-ghost use Rattle.java_types.specs.definitions.Spellings.{holds, is_small_kind, is_given_to};
+ghost use Rattle.java_types.specs.definitions.Spellings.{holds, may_narrow, is_given_to};
 ghost use Rattle.java_types.specs.definitions.Conversions.{converted, given, condition, updated};
 
 use crate::failure::{TypeError, TypeFailure};
@@ -26,7 +26,7 @@ fn holds(kind: Kind, number: i64) -> bool
 }
 
 fn is_small(value: Value) -> bool
-    ensures { result ≡ is_small_kind value.kind }
+    ensures { result ≡ may_narrow value.kind }
 {
     matches!(value.kind(), Kind::Int | Kind::Char)
 }
@@ -50,7 +50,7 @@ fn is_given_to(kind: Kind, spelling: Spelling) -> bool
         Spelling::Grouped(value) => is_small(value) && holds(kind, value.number()),
         Spelling::Minus(value) => is_small(value) && holds_negated(kind, value.number()),
         Spelling::MinusGrouped(value) => is_small(value) && holds_negated(kind, value.number()),
-        Spelling::Least | Spelling::Other => false,
+        Spelling::Least(_) | Spelling::Other => false,
     }
 }
 

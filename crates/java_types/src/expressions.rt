@@ -1,6 +1,6 @@
 ghost use Rattle.std.specs.Prelude.{◌≡◌, MatchResult};
 ghost use Rattle.java_types.specs.definitions.Checks.{fine, IsFirst};
-ghost use Rattle.java_types.specs.definitions.Operands.{value_of_name, entry_expression, literal, binary_operand, checked_expression};
+ghost use Rattle.java_types.specs.definitions.Operands.{value_of_name, entry_expression, plain_literal, least_literal, binary_operand, checked_expression};
 
 use crate::failure::{TypeError, TypeFailure};
 use crate::operand::{Operand, Spelling};
@@ -12,8 +12,9 @@ use sj_ast::Raw;
 use sj_names::Entry;
 use std::alloc::Global;
 
-fn literal(at: u32, value: Value, spelling: Spelling) -> Operand
-    ensures { result ≡ literal at value spelling }
+#[tactic(auto, using(crate::proofs::LiteralLemmas::literals))]
+fn plain_literal(at: u32, value: Value) -> Operand
+    ensures { result ≡ plain_literal at value }
 {
     Operand {
         expr: Expr {
@@ -21,7 +22,22 @@ fn literal(at: u32, value: Value, spelling: Spelling) -> Operand
             form: ExprForm::Literal(value.number()),
         },
         first: at,
-        spelling,
+        spelling: Spelling::Literal(value),
+    }
+}
+
+/// The least `int` or `long`, with its minus.
+#[tactic(auto, using(crate::proofs::LiteralLemmas::literals))]
+fn least_literal(at: u32, value: Value) -> Operand
+    ensures { result ≡ least_literal at value }
+{
+    Operand {
+        expr: Expr {
+            kind: value.kind(),
+            form: ExprForm::Literal(value.number()),
+        },
+        first: at,
+        spelling: Spelling::Least(value),
     }
 }
 
@@ -71,8 +87,8 @@ pub fn expression(alloc: Global, tables: &Tables, raw: &Raw<Entry>) -> Result<Op
     ensures { MatchResult result (λ o. checked_expression tables.now raw.now ≡ fine o) (IsFirst (checked_expression tables.now raw.now)) }
 {
     match raw {
-        Raw::Literal { at, value } => Ok(literal(*at, *value, Spelling::Literal(*value))),
-        Raw::Least { at, value } => Ok(literal(*at, *value, Spelling::Least)),
+        Raw::Literal { at, value } => Ok(plain_literal(*at, *value)),
+        Raw::Least { at, value } => Ok(least_literal(*at, *value)),
         Raw::Variable { at, name } => value_of_name(tables, *at, *at, *name),
         Raw::Status { at, name_at, name } => value_of_name(tables, *at, *name_at, *name),
         Raw::Unary { at, op, operand } => {

@@ -4,6 +4,7 @@
 mod conversions;
 mod expressions;
 mod failure;
+mod laws;
 mod lists;
 mod operand;
 mod operators;
@@ -17,6 +18,7 @@ mod trees;
 mod typing;
 
 pub use failure::{TypeError, TypeFailure};
+pub use laws::fitting_kinds;
 pub use rows::{small_conversions, small_operators, small_signals};
 pub use trees::Typed;
 pub use typing::typed;

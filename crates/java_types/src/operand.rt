@@ -17,7 +17,7 @@ pub enum Spelling {
     /// A minus before a literal in parentheses.
     MinusGrouped(Value),
     /// `-2147483648` or `-9223372036854775808L`.
-    Least,
+    Least(Value),
     /// Any other expression.
     Other,
 }

@@ -44,7 +44,7 @@ fn is_divisor(spelling: Spelling) -> bool
             matches!(value.kind(), Kind::Int | Kind::Long) && value.number() != 0
         }
         Spelling::MinusGrouped(_) => false,
-        Spelling::Least => true,
+        Spelling::Least(value) => value.kind() != Kind::Boolean && value.number() != 0,
         Spelling::Other => false,
     }
 }

@@ -1,13 +1,11 @@
 -- What a value may be given to, and where a cast is written for it.
-use Rattle.std.specs.Prelude.{ℕ, Bool, true, false, ◌||◌, cond, Option, Some, None}
+use Rattle.std.specs.Prelude.{ℕ, ◌||◌, cond}
 use Rattle.java_values.specs.declared.kind.Kind.{Kind}
 use Rattle.java_values.specs.declared.kind.Kind.TheVariants as kind
 use Rattle.java_values.specs.declared.op.Op2.{Op2}
-use Rattle.java_values.specs.Kinds.{is_widened, is_castable, result_kind2}
+use Rattle.java_values.specs.Kinds.{is_widened, is_castable}
 use Rattle.kernel_terms.specs.declared.expr.Expr as expr
 use Rattle.kernel_terms.specs.declared.expr.ExprForm as expr_form
-use Rattle.kernel_terms.specs.declared.tables.Tables.{Tables}
-use Rattle.kernel_terms.specs.TableEntries.{variable_at}
 use Rattle.kernel_terms.specs.WellFormed.{same_kind}
 use Rattle.java_types.specs.declared.operand.Operand.{Operand}
 use Rattle.java_types.specs.declared.failure.TypeFailure.TheVariants as failure

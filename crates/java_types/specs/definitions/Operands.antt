@@ -1,11 +1,11 @@
 -- The kinds of expressions. Operands come first, from left to right, and then their operator.
 use Rattle.std.specs.Prelude.{ℕ, Bool, true, false, cond, [], ◌∷◌, Option, Some, None, option_map}
 use Rattle.java_values.specs.declared.kind.Kind.{Kind}
-use Rattle.java_values.specs.declared.kind.Kind.TheVariants as kind
 use Rattle.java_values.specs.declared.op.Op1.{Op1}
 use Rattle.java_values.specs.declared.op.Op2.{Op2}
 use Rattle.java_values.specs.declared.op.Op2.TheVariants as op2
 use Rattle.java_values.specs.Kinds.{TypedNumber, is_castable, result_kind1, result_kind2}
+use Rattle.java_values.specs.Arithmetic.{wrapped}
 use Rattle.kernel_terms.specs.declared.expr.Expr as expr
 use Rattle.kernel_terms.specs.declared.expr.ExprForm as expr_form
 use Rattle.kernel_terms.specs.declared.tables.Tables.{Tables}
@@ -48,6 +48,16 @@ value_of_name first name_at (Some e) = fine (written first spelling.Other e)
 abbrev pub literal : ℕ → TypedNumber → Spelling → Operand
 literal at v s = written at s (expr_of v.kind (expr_form.Literal v.number))
 
+-- the value of a literal: its number is one of its kind, so that wrapping leaves it as it is
+abbrev pub literal_value : TypedNumber → TypedNumber
+literal_value v = record { kind = v.kind; number = wrapped v.kind v.number }
+
+abbrev pub plain_literal : ℕ → TypedNumber → Operand
+plain_literal at v = literal at (literal_value v) (spelling.Literal (literal_value v))
+
+abbrev pub least_literal : ℕ → TypedNumber → Operand
+least_literal at v = literal at (literal_value v) (spelling.Least (literal_value v))
+
 abbrev pub with_kind1 : ℕ → Op1 → Operand → Option Kind → Checked Operand
 with_kind1 at op e None = wrong (failure.Mismatch at)
 with_kind1 at op e (Some k) = fine (written at (unary_spelling op e.spelling) (expr_of k (expr_form.Unary op e.expr)))
@@ -85,8 +95,8 @@ abbrev pub binary_operand : ℕ → Op2 → Operands → Checked Operand
 binary_operand at op o = then (binary at op o.left.expr o.right) (λ e. fine (written o.left.first spelling.Other e))
 
 abbrev pub checked_layer : Tables → Raw-F Entry (Checked Operand) → Checked Operand
-checked_layer t (Raw-F.Literal at v) = fine (literal at v (spelling.Literal v))
-checked_layer t (Raw-F.Least at v) = fine (literal at v spelling.Least)
+checked_layer t (Raw-F.Literal at v) = fine (plain_literal at v)
+checked_layer t (Raw-F.Least at v) = fine (least_literal at v)
 checked_layer t (Raw-F.Variable at n) = value_of_name at at (entry_expression t n)
 checked_layer t (Raw-F.Status at name_at n) = value_of_name at name_at (entry_expression t n)
 checked_layer t (Raw-F.Unary at op e) = then e (unary at op)

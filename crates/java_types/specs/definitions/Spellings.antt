@@ -1,5 +1,5 @@
 -- Literals, as they are written: which of them may be divisors, and which are given to a narrower kind.
-use Rattle.std.specs.Prelude.{ℤ, pos, neg_ℤ, Bool, true, false, ◌&&◌, not, int_le, Option, Some, None, option_map}
+use Rattle.std.specs.Prelude.{ℤ, pos, neg_ℤ, Bool, true, false, ◌&&◌, not, int_le}
 use Rattle.std.specs.Ordering.{int_eq}
 use Rattle.java_values.specs.declared.kind.Kind.{Kind}
 use Rattle.java_values.specs.declared.kind.Kind.TheVariants as kind
@@ -38,13 +38,13 @@ is_divisor (spelling.Literal v) = is_integer v.kind && not (is_zero v)
 is_divisor (spelling.Grouped v) = is_integer v.kind && not (is_zero v)
 is_divisor (spelling.Minus v) = is_number_kind v.kind && not (is_zero v)
 is_divisor (spelling.MinusGrouped v) = false
-is_divisor spelling.Least = true
+is_divisor (spelling.Least v) = is_integer v.kind && not (is_zero v)
 is_divisor spelling.Other = false
 
-abbrev pub is_small_kind : Kind → Bool
-is_small_kind kind.Int = true
-is_small_kind kind.Char = true
-is_small_kind _ = false
+abbrev pub may_narrow : Kind → Bool
+may_narrow kind.Int = true
+may_narrow kind.Char = true
+may_narrow _ = false
 
 -- an integer kind whose range holds the number
 abbrev pub holds : Kind → ℤ → Bool
@@ -52,8 +52,8 @@ holds k n = is_integer k && (int_le (lowest k) n && int_le n (highest k))
 
 -- An `int` or `char` literal, also behind one minus, is given to an integer kind whose range holds its number.
 abbrev pub is_given_to : Kind → Spelling → Bool
-is_given_to k (spelling.Literal v) = is_small_kind v.kind && holds k v.number
-is_given_to k (spelling.Grouped v) = is_small_kind v.kind && holds k v.number
-is_given_to k (spelling.Minus v) = is_small_kind v.kind && holds k (neg_ℤ v.number)
-is_given_to k (spelling.MinusGrouped v) = is_small_kind v.kind && holds k (neg_ℤ v.number)
+is_given_to k (spelling.Literal v) = may_narrow v.kind && holds k v.number
+is_given_to k (spelling.Grouped v) = may_narrow v.kind && holds k v.number
+is_given_to k (spelling.Minus v) = may_narrow v.kind && holds k (neg_ℤ v.number)
+is_given_to k (spelling.MinusGrouped v) = may_narrow v.kind && holds k (neg_ℤ v.number)
 is_given_to k _ = false

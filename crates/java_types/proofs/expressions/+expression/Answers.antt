@@ -1,4 +1,4 @@
-use Rattle.std.proofs.Common.{rules, ◌∙◌}
+use Rattle.std.proofs.Common.{rules}
 use Rattle.java_types.proofs.ExpressionLemmas.{right_fails}
 use Rattle.java_types.proofs.expressions.+expression.Goals as goal
 
