@@ -1,5 +1,5 @@
 -- The names of a tree, one statement at a time.
-use Rattle.std.proofs.Common.{◌≡◌, ℕ, List, [], ◌∷◌, map, None, refl, sym, ap, ◌∙◌}
+use Rattle.std.proofs.Common.{◌≡◌, ℕ, List, [], ◌∷◌, ◌++◌, map, None, refl, sym, ap, ◌∙◌}
 use Rattle.java_values.specs.declared.value.Value.{Value}
 use Rattle.sj_ast.specs.declared.name.Name.{Name}
 use Rattle.sj_ast.specs.declared.expression.Raw as raw
@@ -19,6 +19,8 @@ use Rattle.sj_names.specs.declared.mention.Role.TheVariants as role
 use Rattle.sj_names.specs.declared.failure.Failure.{Failure}
 use Rattle.sj_names.specs.definitions.Scopes.{Scope}
 use Rattle.sj_names.specs.definitions.Mentions.{Part, silent, then, in_order, closed, mentioned, raw_layer, expression_mentions, form_layer, block_layer, stmt_layer, block_part, stmt_part, block_place, domain_mentions, interface_names, names_of_tree}
+use Rattle.kernel_terms.specs.declared.tables.Tables.{Tables}
+use Rattle.sj_names.specs.definitions.DeclaredTables.{Declared, nothing, port_signals, port_channels, declared_domains, tables_of_tree}
 use Rattle.sj_names.specs.definitions.Failures.{failures_of}
 use Rattle.sj_accept.specs.definitions.Sources.{SourceTree}
 
@@ -131,4 +133,18 @@ failures_with tree parts = failures_of (record { ports = (interface_names tree).
 pub tree_tells : (tree : SourceTree) (parts : List Part) → BlocksTell tree.domains parts → failures_of (names_of_tree tree) ≡ failures_with tree parts
 tree_tells tree parts b =
     ap (λ (ds : List (List Mention)). failures_of (record { ports = (interface_names tree).mentions; domains = ds; places = map block_place tree.domains }))
+    (mentions_of_parts (interface_names tree).scope tree.domains ∙ ap (part_mentions (interface_names tree).scope) b.is)
+
+-- the tables of a tree whose blocks tell these parts and declare nothing
+abbrev pub tables_with : SourceTree → List Part → Tables
+tables_with tree parts = record {
+  signals = port_signals (part_mentions (interface_names tree).scope parts) 0 tree.ports ++ [];
+  channels = port_channels (part_mentions (interface_names tree).scope parts) 0 tree.ports;
+  variables = [];
+}
+
+pub tables_told : (tree : SourceTree) (parts : List Part) → BlocksTell tree.domains parts → declared_domains 0 tree.domains ≡ nothing → tables_of_tree tree ≡ tables_with tree parts
+tables_told tree parts b d =
+    ap (λ (x : Declared). let t : Tables = record { signals = port_signals (names_of_tree tree).domains 0 tree.ports ++ x.signals; channels = port_channels (names_of_tree tree).domains 0 tree.ports; variables = x.variables } in t) d
+    ∙ ap (λ (ds : List (List Mention)). let t : Tables = record { signals = port_signals ds 0 tree.ports ++ []; channels = port_channels ds 0 tree.ports; variables = [] } in t)
     (mentions_of_parts (interface_names tree).scope tree.domains ∙ ap (part_mentions (interface_names tree).scope) b.is)

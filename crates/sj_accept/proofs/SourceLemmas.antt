@@ -3,25 +3,20 @@ use Rattle.std.proofs.Common.{◌≡◌, ℕ, suc, ◌≤◌, length, arith, Boo
 use Rattle.std.specs.Prelude.{Option}
 use Rattle.std.specs.List.{list_all}
 use Rattle.java_values.specs.Names.{is_name}
-use Rattle.java_values.specs.declared.kind.Kind.{Kind}
-use Rattle.java_values.specs.declared.kind.Kind.TheVariants as kind
 use Rattle.sj_lexer.specs.declared.token.Token.{Token}
 use Rattle.sj_lexer.specs.definitions.Readings.{AreTokens, HaveNames, text_of}
-use Rattle.sj_ast.specs.declared.port.Direction.{Direction}
-use Rattle.sj_ast.specs.declared.port.Direction.TheVariants as direction
-use Rattle.sj_grammar.specs.definitions.Expressions.{IsName}
-use Rattle.sj_grammar.specs.definitions.Statements.{Declared, Pure, Valued, print_declared, IsDeclared, print_block, print_others}
+use Rattle.sj_ast.specs.declared.name.Name.{Name}
+use Rattle.sj_ast.specs.declared.port.Port as port
+use Rattle.sj_names.specs.definitions.SoundTables.{port_name}
+use Rattle.sj_grammar.specs.definitions.Statements.{Declared, Pure, Valued, NotCombined, CombinedBy, print_declared, IsDeclared, print_block, print_others}
 use Rattle.sj_grammar.specs.definitions.Programs as grammar
 use Rattle.sj_grammar.specs.definitions.Programs.{NoPort, PortThen, print_ports, IsPorts, print_program, IsProgram}
 use Rattle.sj_grammar.specs.definitions.Trees as trees
 use Rattle.sj_grammar.specs.definitions.Trees.{tree_of}
-use Rattle.sj_accept.specs.Optional.{all_some, with_first}
 use Rattle.sj_accept.specs.definitions.Sources.{SourceTree, IsParsed}
-use Rattle.sj_accept.specs.definitions.Ports.{BuiltPort, BuiltSignal, BuiltChannel, built_port, built_ports, port_name, port_names, pure_output, int_channel}
 use Rattle.sj_accept.specs.definitions.Programs.{LoweredProgram, program_of}
 use Rattle.sj_accept.specs.definitions.Accepted.{IsSourceOf}
 use Rattle.sj_accept.specs.Lowered.{IsWhole}
-use Rattle.sj_accept.proofs.ListLemmas.{first_of_all}
 
 pub parsed_once : (tokens_once : (source : List ℕ) (ts us : List Token) → AreTokens source ts → AreTokens source us → ts ≡ us)
     → (sentences_once : (p q : grammar.Program) → IsProgram p → IsProgram q → print_program p [] ≡ print_program q [] → p ≡ q)
@@ -39,67 +34,31 @@ program_once once source p q a b = same_program p q (sym a.is ∙ ap program_of 
 
 -- the ports' names are words of the source
 
-same_some : {X : Type 0} (x y : X) → Some x ≡ Some y → x ≡ y
-same_some x y h = cc
-
-all_named : List BuiltPort → Type 0
-all_named ports = list_all is_name (port_names ports) ≡ true
-
 both : (a b : Bool) → a ≡ true → b ≡ true → (a && b) ≡ true
 both true b g h = h
 both false b g h = g
 
--- a port, if it is built, ahead of others
-ahead : Option BuiltPort → Option (List BuiltPort) → Option (List BuiltPort)
-ahead None o = None
-ahead (Some p) o = with_first p o
+abbrev all_named : List (port.Port Name) → Type 0
+all_named ports = list_all is_name (map port_name ports) ≡ true
 
-all_ahead : (p : Option BuiltPort) (os : List (Option BuiltPort)) → all_some (p ∷ os) ≡ ahead p (all_some os)
-unfolding ahead
-all_ahead None os = refl
-all_ahead (Some p) os = refl
+signal_named : (source : List ℕ) (s : Declared) (after : List Token) → IsDeclared s → HaveNames source (print_declared s after) → (is_name (trees.signal_of source s).name.text ≡ true) × HaveNames source after
+signal_named source (Pure w n c) after i h = (h.1.0 i.1, h.1.1.1)
+signal_named source (Valued k v w n NotCombined m) after i h = (h.1.1.0 i.2, h.1.1.1.1)
+signal_named source (Valued k v w n (CombinedBy op x y) m) after i h = (h.1.1.0 i.2, h.1.1.1.1.1.1)
 
-named_first : (p : BuiltPort) (o : Option (List BuiltPort)) (ports : List BuiltPort) → is_name (port_name p) ≡ true → ((rest : List BuiltPort) → o ≡ Some rest → all_named rest) → with_first p o ≡ Some ports → all_named ports
-unfolding all_named
-named_first p o ports n h e =
-    let f = first_of_all p ports o e in
-    subst all_named (sym f.is) (both (is_name (port_name p)) (list_all is_name (port_names f.rest)) n (h f.rest f.there))
-
-none_named : (ports : List BuiltPort) → None ≡ Some ports → all_named ports
-none_named ports h = absurd (cc)
-
-signal_named : (source : List ℕ) (d : Direction) (s : Declared) (o : Option (List BuiltPort)) (after : List Token) (ports : List BuiltPort) → IsDeclared s → HaveNames source (print_declared s after)
-    → ((rest : List BuiltPort) → HaveNames source after → o ≡ Some rest → all_named rest) → ahead (pure_output d (trees.signal_of source s).valued (trees.signal_of source s).name.text) o ≡ Some ports → all_named ports
-unfolding ahead
-signal_named source direction.Input (Pure w n c) o after ports i h g e = none_named ports e
-signal_named source direction.Output (Pure w n c) o after ports i h g e = named_first (BuiltSignal (text_of source n)) o ports (h.1.0 i.1) (λ rest r. g rest h.1.1.1 r) e
-signal_named source direction.Input (Valued k v w n c m) o after ports i h g e = none_named ports e
-signal_named source direction.Output (Valued k v w n c m) o after ports i h g e = none_named ports e
-
-channel_named : (source : List ℕ) (k : Kind) (v w n c : Token) (o : Option (List BuiltPort)) (after : List Token) (ports : List BuiltPort) → IsName n → HaveNames source (v ∷ w ∷ n ∷ c ∷ after)
-    → ((rest : List BuiltPort) → HaveNames source after → o ≡ Some rest → all_named rest) → ahead (int_channel k (text_of source n)) o ≡ Some ports → all_named ports
-unfolding ahead
-channel_named source kind.Int v w n c o after ports i h g e = named_first (BuiltChannel (text_of source n)) o ports (h.1.1.0 i) (λ rest r. g rest h.1.1.1.1 r) e
-channel_named source kind.Boolean v w n c o after ports i h g e = none_named ports e
-channel_named source kind.Byte v w n c o after ports i h g e = none_named ports e
-channel_named source kind.Short v w n c o after ports i h g e = none_named ports e
-channel_named source kind.Char v w n c o after ports i h g e = none_named ports e
-channel_named source kind.Long v w n c o after ports i h g e = none_named ports e
-
-ports_named : (source : List ℕ) (ps : grammar.Ports) (after : List Token) (ports : List BuiltPort) → IsPorts ps → HaveNames source (print_ports ps after) → built_ports (trees.ports_of source ps) ≡ Some ports → all_named ports
-unfolding all_named
-ports_named source NoPort after ports i h e = ap (λ l. list_all is_name (port_names l)) (same_some ports [] (sym e))
-ports_named source (PortThen (grammar.SignalPort d w s) ps) after ports i h e =
-    signal_named source d s (built_ports (trees.ports_of source ps)) (print_ports ps after) ports i.0.1 h.1 (λ rest k r. ports_named source ps after rest i.1 k r) (sym (all_ahead (pure_output d (trees.signal_of source s).valued (trees.signal_of source s).name.text) (map built_port (trees.ports_of source ps))) ∙ e)
-ports_named source (PortThen (grammar.ChannelPort k v w n c) ps) after ports i h e =
-    channel_named source k v w n c (built_ports (trees.ports_of source ps)) (print_ports ps after) ports i.0.2 h (λ rest m r. ports_named source ps after rest i.1 m r) (sym (all_ahead (int_channel k (text_of source n)) (map built_port (trees.ports_of source ps))) ∙ e)
+ports_named : (source : List ℕ) (ps : grammar.Ports) (after : List Token) → IsPorts ps → HaveNames source (print_ports ps after) → all_named (trees.ports_of source ps)
+ports_named source NoPort after i h = refl
+ports_named source (PortThen (grammar.SignalPort d w s) ps) after i h =
+    let n = signal_named source s (print_ports ps after) i.0.1 h.1 in
+    both (is_name (trees.signal_of source s).name.text) (list_all is_name (map port_name (trees.ports_of source ps))) n.0 (ports_named source ps after i.1 n.1)
+ports_named source (PortThen (grammar.ChannelPort k v w n c) ps) after i h =
+    both (is_name (text_of source n)) (list_all is_name (map port_name (trees.ports_of source ps))) (h.1.1.0 i.0.2) (ports_named source ps after i.1 h.1.1.1.1)
 
 ap_le : {m n : ℕ} → m ≡ suc n → 1 ≤ m
 ap_le e = omega arith
 
 pub tree_whole : (named : (source : List ℕ) (ts : List Token) → AreTokens source ts → HaveNames source ts) → (source : List ℕ) (tree : SourceTree) → IsParsed source tree → IsWhole tree
-unfolding all_named
-tree_whole named source tree p = record { some = ap_le (ap (λ (t : SourceTree). length t.domains) p.parsed.stands); named = λ ports e. ports_named source p.parsed.sentence.ports after ports p.parsed.is_program.ports names (ap (λ (t : SourceTree). built_ports t.ports) (sym p.parsed.stands) ∙ e) }
+tree_whole named source tree p = record { some = ap_le (ap (λ (t : SourceTree). length t.domains) p.parsed.stands); named = ap (λ (t : SourceTree). list_all is_name (map port_name t.ports)) p.parsed.stands ∙ ports_named source p.parsed.sentence.ports after p.parsed.is_program.ports names }
   where
     after : List Token
     after = p.parsed.sentence.close_ports ∷ print_block p.parsed.sentence.first (print_others p.parsed.sentence.others (p.parsed.sentence.close_system ∷ []))

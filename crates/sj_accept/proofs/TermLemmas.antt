@@ -1,8 +1,7 @@
 -- A tree of the built forms, one layer at a time.
-use Rattle.std.proofs.Common.{◌≡◌, ℕ, ℤ, ◌<◌, Bool, true, false, ◌&&◌, List, [], ◌∷◌, ◌++◌, map, ap, ◌∙◌, sym, refl, subst, nat_lt, ◌≤◌, length, length-append, arith}
+use Rattle.std.proofs.Common.{◌≡◌, ℕ, ℤ, ◌<◌, Bool, true, false, ◌&&◌, List, [], ◌∷◌, ◌++◌, map, ap, ◌∙◌, sym, refl, subst, ◌≤◌, length, length-append, arith}
 use Rattle.std.specs.Prelude.{Option, None}
 use Rattle.std.specs.List.{list_all}
-use Rattle.std.proofs.lemmas.Bool.Decides.{nat_tests}
 use Rattle.java_values.specs.declared.kind.Kind.{Kind}
 use Rattle.java_values.specs.declared.kind.Kind.TheVariants.{Int}
 use Rattle.kernel_terms.specs.declared.expr.Expr.{Expr}
@@ -18,13 +17,14 @@ use Rattle.kernel_terms.specs.declared.term.Form.TheOpen.{Form-F}
 use Rattle.kernel_terms.specs.declared.term.Form.TheFolds.{fold-Form, fold-roll-Form, fold_out-Term}
 use Rattle.kernel_terms.specs.declared.term.Form.TheVariants.{rolls-Seq, rolls-Loop, rolls-Nothing, rolls-Pause, rolls-Emit, rolls-Send, rolls-Receive}
 use Rattle.kernel_terms.specs.declared.term.Form as form
-use Rattle.kernel_terms.specs.WellFormed.{has_parts, has_some, form_has_parts, term_has_parts}
-use Rattle.kernel_terms.specs.Statements.{Stmt, Nothing, Pause, Emit, Send, Receive, statement, statement_of_form, form_statement, term_statement, sequence_from}
+use Rattle.kernel_terms.specs.declared.tables.Tables.{Tables}
+use Rattle.kernel_terms.specs.WellFormed.{has_parts, has_some, form_has_parts, term_has_parts, declared_by, fits_statement}
+use Rattle.kernel_terms.specs.Statements.{Stmt, Nothing, Pause, Emit, Seq, Send, Receive, statement, statement_of_form, form_statement, term_statement, sequence_from}
 use Rattle.kernel_terms.specs.Built.{is_built, is_built_form, form_built, term_built, all_built, is_int_literal}
 use Rattle.kernel_terms.proofs.Layers.{statement-Seq, statement-Loop}
-use Rattle.sj_accept.specs.BuiltTerms.{is_int, is_within, IsBuilt, AreBuilt}
-use Rattle.sj_accept.specs.definitions.Ports.{Interface}
-use Rattle.sj_accept.specs.definitions.Lowering.{term_at, block_of}
+use Rattle.sj_names.specs.definitions.FittingTrees.{Around, scope_of}
+use Rattle.sj_accept.specs.BuiltTerms.{IsBuilt, AreBuilt, Fits, AllFit}
+use Rattle.sj_accept.specs.definitions.Lowering.{term_at, block_of, int_expression}
 
 -- lists of parts have some
 
@@ -127,75 +127,64 @@ literal_is e n h k =
 
 -- terms of the built forms
 
-within : Interface → Stmt → Bool
-within i p = is_within (length i.signals) (length i.channels) p
+pub built-Nothing : (t : Term) → t.form ≡ form.Nothing → IsBuilt t
+built-Nothing t h = record { parts = parts-Nothing t h; forms = forms-Nothing t h; declares = ap declared_by (statement-Nothing t h) }
 
-pub built-Nothing : (t : Term) → t.form ≡ form.Nothing → (i : Interface) → IsBuilt i t
-unfolding within
-built-Nothing t h i = record { parts = parts-Nothing t h; forms = forms-Nothing t h; uses = ap (within i) (statement-Nothing t h) }
+pub built-Pause : (t : Term) → t.form ≡ form.Pause → IsBuilt t
+built-Pause t h = record { parts = parts-Pause t h; forms = forms-Pause t h; declares = ap declared_by (statement-Pause t h) }
 
-pub built-Pause : (t : Term) → t.form ≡ form.Pause → (i : Interface) → IsBuilt i t
-unfolding within
-built-Pause t h i = record { parts = parts-Pause t h; forms = forms-Pause t h; uses = ap (within i) (statement-Pause t h) }
+pub built-Emit : (t : Term) (s : ℕ) → t.form ≡ form.Emit s None → IsBuilt t
+built-Emit t s h = record { parts = parts-Emit t s None h; forms = forms-Emit t s h; declares = ap declared_by (statement-Emit t s h) }
 
-lt_true : (a b : ℕ) → a < b → nat_lt a b ≡ true
-lt_true a b h = grind (arith, nat_tests)
+pub built-Receive : (t : Term) (c : ℕ) → t.form ≡ form.Receive c → IsBuilt t
+built-Receive t c h = record { parts = parts-Receive t c h; forms = forms-Receive t c h; declares = ap declared_by (statement-Receive t c h) }
+
+pub built-Send : (t : Term) (c : ℕ) (e : Expr) (n : ℤ) → t.form ≡ form.Send c e → expression e ≡ Literal Int n → IsBuilt t
+built-Send t c e n h v = record { parts = parts-Send t c e h; forms = forms-Send t c e n h v; declares = ap declared_by (statement-Send t c e n h v) }
+
+pub built-Loop : (t body : Term) → t.form ≡ form.Loop body → IsBuilt body → IsBuilt t
+built-Loop t body h b = record { parts = parts-Loop t body h ∙ b.parts; forms = forms-Loop t body h ∙ b.forms; declares = ap declared_by (statement-Loop t body h) ∙ b.declares }
 
 and_true : (a b : Bool) → a ≡ true → b ≡ true → (a && b) ≡ true
 and_true true b g h = h
 and_true false b g h = g
 
-both : (a b : Bool) → (a && b) ≡ true → (a ≡ true) × (b ≡ true)
-both true b h = (refl, h)
-both false b h = cc
+all_parts : (ts : List Term) → AreBuilt ts → list_all (λ b. b) (map has_parts ts) ≡ true
+all_parts [] h = refl
+all_parts (t ∷ ts) h = and_true (has_parts t) (list_all (λ c. c) (map has_parts ts)) h.0.parts (all_parts ts h.1)
 
-pub built-Emit : (t : Term) (s : ℕ) → t.form ≡ form.Emit s None → (i : Interface) → s < length i.signals → IsBuilt i t
-unfolding within
-built-Emit t s h i l = record { parts = parts-Emit t s None h; forms = forms-Emit t s h; uses = ap (within i) (statement-Emit t s h) ∙ lt_true s (length i.signals) l }
+all_forms : (ts : List Term) → AreBuilt ts → all_built (map is_built ts) ≡ true
+all_forms [] h = refl
+all_forms (t ∷ ts) h = and_true (is_built t) (all_built (map is_built ts)) h.0.forms (all_forms ts h.1)
 
-pub built-Receive : (t : Term) (c : ℕ) → t.form ≡ form.Receive c → (i : Interface) → c < length i.channels → IsBuilt i t
-unfolding within
-built-Receive t c h i l = record { parts = parts-Receive t c h; forms = forms-Receive t c h; uses = ap (within i) (statement-Receive t c h) ∙ lt_true c (length i.channels) l }
+declare_none : (t : Term) (ts : List Term) → IsBuilt t → AreBuilt ts → declared_by (sequence_from (statement t) (map statement ts)) ≡ []
+declare_none t [] g h = g.declares
+declare_none t (u ∷ us) g h = ap (λ l. l ++ declared_by (sequence_from (statement u) (map statement us))) g.declares ∙ declare_none u us h.0 h.1
 
-pub built-Send : (t : Term) (c : ℕ) (e : Expr) (n : ℤ) → t.form ≡ form.Send c e → expression e ≡ Literal Int n → is_int n ≡ true → (i : Interface) → c < length i.channels → IsBuilt i t
-unfolding within
-built-Send t c e n h v r i l = record {
-  parts = parts-Send t c e h;
-  forms = forms-Send t c e n h v;
-  uses = ap (within i) (statement-Send t c e n h v) ∙ and_true (nat_lt c (length i.channels)) (is_int n) (lt_true c (length i.channels) l) r;
-}
-
-pub built-Loop : (t body : Term) → t.form ≡ form.Loop body → (i : Interface) → IsBuilt i body → IsBuilt i t
-unfolding within
-built-Loop t body h i b = record { parts = parts-Loop t body h ∙ b.parts; forms = forms-Loop t body h ∙ b.forms; uses = ap (within i) (statement-Loop t body h) ∙ b.uses }
-
-all_parts : (i : Interface) (ts : List Term) → AreBuilt i ts → list_all (λ b. b) (map has_parts ts) ≡ true
-all_parts i [] h = refl
-all_parts i (t ∷ ts) h = and_true (has_parts t) (list_all (λ c. c) (map has_parts ts)) h.0.parts (all_parts i ts h.1)
-
-all_forms : (i : Interface) (ts : List Term) → AreBuilt i ts → all_built (map is_built ts) ≡ true
-all_forms i [] h = refl
-all_forms i (t ∷ ts) h = and_true (is_built t) (all_built (map is_built ts)) h.0.forms (all_forms i ts h.1)
-
-uses_from : (i : Interface) (t : Term) (ts : List Term) → IsBuilt i t → AreBuilt i ts → within i (sequence_from (statement t) (map statement ts)) ≡ true
-unfolding within
-uses_from i t [] g h = g.uses
-uses_from i t (u ∷ us) g h = and_true (is_within (length i.signals) (length i.channels) (statement t)) _ g.uses (uses_from i u us h.0 h.1)
-
-built-Seq : (i : Interface) (t first : Term) (rest : List Term) → t.form ≡ form.Seq (first ∷ rest) → AreBuilt i (first ∷ rest) → IsBuilt i t
-unfolding within
-built-Seq i t first rest h a = record {
-  parts = parts-Seq t (first ∷ rest) h ∙ and_true (has_parts first) (list_all (λ c. c) (map has_parts rest)) a.0.parts (all_parts i rest a.1);
-  forms = forms-Seq t (first ∷ rest) h ∙ all_forms i (first ∷ rest) a;
-  uses = ap (within i) (statement-Seq t (first ∷ rest) h) ∙ uses_from i first rest a.0 a.1;
+built-Seq : (t first : Term) (rest : List Term) → t.form ≡ form.Seq (first ∷ rest) → AreBuilt (first ∷ rest) → IsBuilt t
+built-Seq t first rest h a = record {
+  parts = parts-Seq t (first ∷ rest) h ∙ and_true (has_parts first) (list_all (λ c. c) (map has_parts rest)) a.0.parts (all_parts rest a.1);
+  forms = forms-Seq t (first ∷ rest) h ∙ all_forms (first ∷ rest) a;
+  declares = ap declared_by (statement-Seq t (first ∷ rest) h) ∙ declare_none first rest a.0 a.1;
 }
 
 -- terms one after another
 
-pub built_block : (i : Interface) (at : ℕ) (ts : List Term) → AreBuilt i ts → IsBuilt i (block_of at ts)
-built_block i at [] b = built-Nothing (term_at at form.Nothing) refl i
-built_block i at (t ∷ []) b = b.0
-built_block i at (t ∷ u ∷ us) b = built-Seq i (term_at at (form.Seq (t ∷ u ∷ us))) t (u ∷ us) refl b
+pub built_block : (at : ℕ) (ts : List Term) → AreBuilt ts → IsBuilt (block_of at ts)
+built_block at [] b = built-Nothing (term_at at form.Nothing) refl
+built_block at (t ∷ []) b = b.0
+built_block at (t ∷ u ∷ us) b = built-Seq (term_at at (form.Seq (t ∷ u ∷ us))) t (u ∷ us) refl b
+
+-- where each of the terms keeps the rules, so does their block
+
+fit_from : (t : Tables) (a : Around) (p : Term) (ps : List Term) → Fits t a p → AllFit t a ps → fits_statement t (scope_of a) (sequence_from (statement p) (map statement ps)) ≡ true
+fit_from t a p [] g h = g
+fit_from t a p (q ∷ qs) g h = and_true (fits_statement t (scope_of a) (statement p)) (fits_statement t (scope_of a) (sequence_from (statement q) (map statement qs))) g (fit_from t a q qs h.0 h.1)
+
+pub fit_block : (t : Tables) (a : Around) (at : ℕ) (ts : List Term) → AllFit t a ts → Fits t a (block_of at ts)
+fit_block t a at [] h = ap (fits_statement t (scope_of a)) (statement-Nothing (term_at at form.Nothing) refl)
+fit_block t a at (p ∷ []) h = h.0
+fit_block t a at (p ∷ q ∷ ps) h = ap (fits_statement t (scope_of a)) (statement-Seq (term_at at (form.Seq (p ∷ q ∷ ps))) (p ∷ q ∷ ps) refl) ∙ fit_from t a p (q ∷ ps) h.0 h.1
 
 pub block_long : (at : ℕ) (ts parts : List Term) → 2 ≤ length ts → parts ≡ ts → term_at at (form.Seq parts) ≡ block_of at ts
 block_long at [] parts l e = absurd (omega arith)
@@ -209,11 +198,29 @@ block_one at ts (u ∷ us) t l e = absurd (let n = ap length e in let m = length
 pub block_none : (at : ℕ) (ts : List Term) → ts ≡ [] → term_at at form.Nothing ≡ block_of at ts
 block_none at ts e = sym (ap (block_of at) e)
 
-built_push : (i : Interface) (xs : List Term) (t : Term) → AreBuilt i xs → IsBuilt i t → AreBuilt i (xs ++ t ∷ [])
-built_push i [] t g h = (h, tt)
-built_push i (x ∷ xs) t g h = (g.0, built_push i xs t g.1 h)
+built_push : (xs : List Term) (t : Term) → AreBuilt xs → IsBuilt t → AreBuilt (xs ++ t ∷ [])
+built_push [] t g h = (h, tt)
+built_push (x ∷ xs) t g h = (g.0, built_push xs t g.1 h)
 
-pub built_more : (i : Interface) (xs ys : List Term) (t : Term) → ys ≡ xs ++ t ∷ [] → AreBuilt i xs → IsBuilt i t → AreBuilt i ys
-built_more i xs ys t e g h = subst (AreBuilt i) (sym e) (built_push i xs t g h)
+pub built_more : (xs ys : List Term) (t : Term) → ys ≡ xs ++ t ∷ [] → AreBuilt xs → IsBuilt t → AreBuilt ys
+built_more xs ys t e g h = subst AreBuilt (sym e) (built_push xs t g h)
+
+fit_push : (t : Tables) (a : Around) (xs : List Term) (x : Term) → AllFit t a xs → Fits t a x → AllFit t a (xs ++ x ∷ [])
+fit_push t a [] x g h = (h, tt)
+fit_push t a (y ∷ ys) x g h = (g.0, fit_push t a ys x g.1 h)
+
+pub fit_more : (t : Tables) (a : Around) (xs ys : List Term) (x : Term) → ys ≡ xs ++ x ∷ [] → AllFit t a xs → Fits t a x → AllFit t a ys
+fit_more t a xs ys x e g h = subst (AllFit t a) (sym e) (fit_push t a xs x g h)
+
+-- statements of terms
+
+pub send_is : (at c : ℕ) (n : ℤ) → statement (term_at at (form.Send c (int_expression n))) ≡ Send c (Literal Int n)
+send_is at c n = statement-Send (term_at at (form.Send c (int_expression n))) c (int_expression n) n refl (literal_is (int_expression n) n refl refl)
+
+pub seq_two : (at : ℕ) (a b : Term) (p q : Stmt) → statement a ≡ p → statement b ≡ q → statement (term_at at (form.Seq (a ∷ b ∷ []))) ≡ Seq p q
+seq_two at a b p q h k = statement-Seq (term_at at (form.Seq (a ∷ b ∷ []))) (a ∷ b ∷ []) refl ∙ ap (λ x. Seq x (statement b)) h ∙ ap (Seq p) k
+
+pub seq_three : (at : ℕ) (a b c : Term) (p q r : Stmt) → statement a ≡ p → statement b ≡ q → statement c ≡ r → statement (term_at at (form.Seq (a ∷ b ∷ c ∷ []))) ≡ Seq p (Seq q r)
+seq_three at a b c p q r h k l = statement-Seq (term_at at (form.Seq (a ∷ b ∷ c ∷ []))) (a ∷ b ∷ c ∷ []) refl ∙ ap (λ x. Seq x (Seq (statement b) (statement c))) h ∙ ap (λ x. Seq p (Seq x (statement c))) k ∙ ap (λ x. Seq p (Seq q x)) l
 
 pub ruleset sequences = (block_long, block_one, block_none)

@@ -20,19 +20,16 @@ use Rattle.sj_names.specs.declared.failure.Fault.TheVariants.{Unknown, Twice}
 use Rattle.sj_names.specs.definitions.Mentions.{names_of_tree}
 use Rattle.sj_names.specs.definitions.DeclaredTables.{tables_of_tree}
 use Rattle.sj_names.specs.definitions.Failures.{failure_at, failures_of, IsLeast}
-use Rattle.sj_accept.specs.Optional.{all_some}
 use Rattle.sj_accept.specs.definitions.Sources.{SourceTree, IsParsed}
 use Rattle.sj_accept.specs.definitions.Kinds.{kind_failures}
-use Rattle.sj_accept.specs.definitions.Ports.{port_interface}
 use Rattle.sj_accept.specs.definitions.Lowering.{term_at, block_of}
 use Rattle.sj_accept.specs.definitions.Programs as programs
-use Rattle.sj_accept.specs.definitions.Programs.{program_of, with_terms, domain_statements}
+use Rattle.sj_accept.specs.definitions.Programs.{program_of}
 use Rattle.sj_accept.specs.definitions.Accepted.{KeepsRules}
 use Rattle.sj_accept.specs.definitions.Refusals.{IsUnaccepted, FailsByName}
 use Rattle.sj_accept.proofs.TermLemmas.{statement-Nothing}
-use Rattle.sj_accept.proofs.LoweredTrees.{lowers_none, while_then, no_block, block_then, program_made, halt_unmade, block_unmade}
-use Rattle.sj_accept.proofs.TypedSources.{fit_none, halt_fits, while_fits, no_block_fits, block_then_fits, scope_of_ports, tree_fits}
-use Rattle.sj_accept.proofs.NamedTrees.{tell_none, halt_tells, emit_tells, while_tells, no_block_tells, block_then_tells, tree_tells}
+use Rattle.sj_accept.proofs.TypedSources.{fit_none, while_fits, no_block_fits, block_then_fits, halting_block_fits, scope_of_ports, FitTree, tree_fits, program_is, no_program_is, no_terms_no_program}
+use Rattle.sj_accept.proofs.NamedTrees.{tell_none, halt_tells, emit_tells, while_tells, no_block_tells, block_then_tells, tree_tells, tables_told}
 
 abbrev pub Tell : Type 0
 Tell = (symbols : List Symbol) (levels operators : ℕ) (tokens : List Token) → Tells symbols levels operators tokens (walk symbols levels operators tokens)
@@ -89,11 +86,13 @@ an_input_parsed tell = is_parsed tell an_input_source an_input_sentence refl (re
 an_input_named : failures_of (names_of_tree an_input_tree) ≡ []
 an_input_named = tree_tells an_input_tree _ (block_then_tells 33 _ _ _ _ tell_none no_block_tells)
 
-an_input_typed : kind_failures an_input_tree ≡ []
-an_input_typed = let t = tables_of_tree an_input_tree in let s = scope_of_ports an_input_tree in tree_fits an_input_tree refl (block_then_fits t s 33 _ _ refl (fit_none t s) (no_block_fits t s))
+an_input_fits : FitTree an_input_tree (Some (block_of 33 [] ∷ []))
+an_input_fits = let t = tables_of_tree an_input_tree in let s = scope_of_ports an_input_tree in tree_fits an_input_tree _ refl (block_then_fits t s 33 _ _ _ _ refl (fit_none t s) (no_block_fits t s))
 
 pub an_input : Tell → OneTree → IsUnaccepted an_input_source
-an_input tell one = unaccepted one an_input_source an_input_tree (omega arith) (an_input_parsed tell) an_input_named an_input_typed (no_program an_input_tree refl)
+an_input tell one =
+    unaccepted one an_input_source an_input_tree (omega arith) (an_input_parsed tell) an_input_named an_input_fits.typed
+    (no_program an_input_tree (no_program_is an_input_tree _ _ an_input_fits (tables_told an_input_tree _ (block_then_tells 33 _ _ _ _ tell_none no_block_tells) an_input_fits.declared) refl))
 
 -- two signals of one name
 
@@ -131,11 +130,11 @@ a_halt_parsed tell = is_parsed tell a_halt_source a_halt_sentence refl (record {
 a_halt_named : failures_of (names_of_tree a_halt_tree) ≡ []
 a_halt_named = tree_tells a_halt_tree _ (block_then_tells 18 _ _ _ _ (halt_tells 19 _ _ tell_none) no_block_tells)
 
-a_halt_typed : kind_failures a_halt_tree ≡ []
-a_halt_typed = let t = tables_of_tree a_halt_tree in let s = scope_of_ports a_halt_tree in tree_fits a_halt_tree refl (block_then_fits t s 18 _ _ refl (halt_fits t s 19 _ (fit_none t s)) (no_block_fits t s))
+a_halt_fits : FitTree a_halt_tree None
+a_halt_fits = tree_fits a_halt_tree _ refl (halting_block_fits (tables_of_tree a_halt_tree) (scope_of_ports a_halt_tree) 18 19 refl)
 
 pub a_halt : Tell → OneTree → IsUnaccepted a_halt_source
-a_halt tell one = unaccepted one a_halt_source a_halt_tree (omega arith) (a_halt_parsed tell) a_halt_named a_halt_typed (no_program a_halt_tree (ap (λ o. with_terms [] (all_some (o ∷ []))) (block_unmade (port_interface []) 18 _ [] (halt_unmade (port_interface []) 19))))
+a_halt tell one = unaccepted one a_halt_source a_halt_tree (omega arith) (a_halt_parsed tell) a_halt_named a_halt_fits.typed (no_program a_halt_tree (no_terms_no_program a_halt_tree a_halt_fits))
 
 -- a name that isn't declared
 
@@ -172,22 +171,27 @@ endless_tick_parsed : Tell → IsParsed endless_tick_source endless_tick_tree
 endless_tick_parsed tell = is_parsed tell endless_tick_source endless_tick_sentence refl (record { system = refl; open_system = refl; interface = refl; open_ports = refl; ports = tt; close_ports = refl; first = (refl, ((refl, refl, refl, refl, (refl, tt, refl)), tt), refl); others = tt; close_system = refl }) refl refl
 
 abbrev loop_program : programs.LoweredProgram
-loop_program = record { ports = []; terms = block_of 18 (term_at 19 (term_form.Loop (block_of 30 [])) ∷ []) ∷ [] }
-
-loop_is : program_of endless_tick_tree ≡ Some loop_program
-loop_is = program_made endless_tick_tree loop_program refl (let i = port_interface [] in block_then i 18 _ _ _ _ (while_then i 19 30 _ _ _ _ (lowers_none i) (lowers_none i)) (no_block i))
+loop_program = record { tables = record { signals = []; channels = []; variables = [] }; terms = block_of 18 (term_at 19 (term_form.Loop (block_of 30 [])) ∷ []) ∷ [] }
 
 endless_tick_named : failures_of (names_of_tree endless_tick_tree) ≡ []
 endless_tick_named = tree_tells endless_tick_tree _ (block_then_tells 18 _ _ _ _ (while_tells 19 30 _ _ _ _ tell_none tell_none) no_block_tells)
 
-endless_tick_typed : kind_failures endless_tick_tree ≡ []
-endless_tick_typed = let t = tables_of_tree endless_tick_tree in let s = scope_of_ports endless_tick_tree in tree_fits endless_tick_tree refl (block_then_fits t s 18 _ _ refl (while_fits t s 19 30 _ _ refl (fit_none t s) (fit_none t s)) (no_block_fits t s))
+endless_tick_fits : FitTree endless_tick_tree (Some loop_program.terms)
+endless_tick_fits =
+    let t = tables_of_tree endless_tick_tree in
+    let s = scope_of_ports endless_tick_tree in
+    tree_fits endless_tick_tree _ refl (block_then_fits t s 18 _ _ _ _ refl (while_fits t s 19 30 _ _ _ _ refl (fit_none t s) (fit_none t s)) (no_block_fits t s))
+
+loop_is : program_of endless_tick_tree ≡ Some loop_program
+loop_is =
+    program_is endless_tick_tree loop_program.tables loop_program.terms endless_tick_fits
+    (tables_told endless_tick_tree _ (block_then_tells 18 _ _ _ _ (while_tells 19 30 _ _ _ _ tell_none tell_none) no_block_tells) endless_tick_fits.declared) refl
 
 loop_statement : statement (term_at 19 (term_form.Loop (block_of 30 []))) ≡ Loop Nothing
 loop_statement = statement-Loop (term_at 19 (term_form.Loop (block_of 30 []))) (block_of 30 []) refl ∙ ap Loop (statement-Nothing (block_of 30 []) refl)
 
 pub endless_tick : Tell → OneTree → IsUnaccepted endless_tick_source
-endless_tick tell one = unaccepted one endless_tick_source endless_tick_tree (omega arith) (endless_tick_parsed tell) endless_tick_named endless_tick_typed (λ p is rules.
+endless_tick tell one = unaccepted one endless_tick_source endless_tick_tree (omega arith) (endless_tick_parsed tell) endless_tick_named endless_tick_fits.typed (λ p is rules.
     let same : loop_program ≡ p = let x : Some loop_program ≡ Some p = sym loop_is ∙ is in cc in
     let waits : LoopsWait (statement (term_at 19 (term_form.Loop (block_of 30 [])))) = (subst KeepsRules (sym same) rules).loops 0 in
     let x : true ≡ false = (subst LoopsWait loop_statement waits).0 in

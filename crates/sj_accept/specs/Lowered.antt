@@ -1,69 +1,76 @@
 -- What the steps of the lowering answer.
-use Rattle.std.specs.Prelude.{◌≡◌, ◌≤◌, true, List, length, map, Some}
+use Rattle.std.specs.Prelude.{◌≡◌, ℕ, ◌≤◌, true, List, [], ◌∷◌, ◌++◌, length, map, Option, Some, None}
 use Rattle.std.specs.List.{list_all}
-use Rattle.java_values.specs.Names.{is_name, are_distinct}
+use Rattle.java_values.specs.Names.{is_name}
 use Rattle.kernel_terms.specs.declared.term.Term.{Term}
+use Rattle.kernel_terms.specs.declared.tables.Tables.{Tables}
 use Rattle.kernel_terms.specs.declared.system.System.{System}
 use Rattle.kernel_terms.specs.Systems.{tables_of, domains_of}
-use Rattle.sj_ast.specs.declared.name.Name.{Name}
-use Rattle.sj_ast.specs.declared.port.Port as port
-use Rattle.sj_grammar.specs.definitions.Trees.{SourceStmt, SourceBlock}
-use Rattle.sj_accept.specs.Optional.{all_some, with_all}
-use Rattle.sj_accept.specs.BuiltTerms.{AreBuilt}
-use Rattle.sj_accept.specs.PortNames.{IsWithinLimits}
+use Rattle.kernel_terms.specs.WellFormed.{has_names, is_within_limits, interface_comes_first, is_channel_entry, is_variable_entry}
+use Rattle.sj_names.specs.definitions.FittingTrees.{Around, fits_tree, stmts_fit, fits_stmt}
+use Rattle.sj_names.specs.definitions.SoundTables.{port_name, has_domain}
+use Rattle.java_types.specs.definitions.FittingKinds.{kind_rules}
+use Rattle.java_types.specs.definitions.TypedTrees.{TypedStmt, TypedBlock}
+use Rattle.sj_accept.specs.BuiltTerms.{IsBuilt, AreBuilt, AllFit, IsTermOfBlock}
+use Rattle.sj_accept.specs.definitions.Optional.{all_some}
 use Rattle.sj_accept.specs.definitions.Sources.{SourceTree}
-use Rattle.sj_accept.specs.definitions.Ports.{BuiltPort, built_ports, port_names, Interface, port_interface}
+use Rattle.sj_accept.specs.definitions.Kinds.{TypedTree}
+use Rattle.sj_accept.specs.definitions.BuiltTables.{tables_are_built}
 use Rattle.sj_accept.specs.definitions.Lowering.{stmt_term, block_term}
-use Rattle.sj_accept.specs.definitions.Programs.{LoweredProgram, program_of, tables_of_program}
-use Rattle.sj_accept.specs.definitions.Accepted.{KeepsNamesAndOwners}
+use Rattle.sj_accept.specs.definitions.Programs.{LoweredProgram, lowered}
 
--- Those before the rest of the ports have this interface. They are built and keep the rules on names.
-pub record PortsReach (all rest : List (port.Port Name)) (i : Interface) : Type 0 where
-  pub ports : List BuiltPort
-  pub interface : i ≡ port_interface ports
-  pub whole : built_ports all ≡ with_all ports (built_ports rest)
-  pub distinct : are_distinct (port_names ports) ≡ true
-  pub limits : IsWithinLimits i
+abbrev pub with_all : {X : Type 0} → List X → Option (List X) → Option (List X)
+with_all xs None = None
+with_all xs (Some ys) = Some (xs ++ ys)
 
--- all of them do
-pub record AreNames (all : List (port.Port Name)) (i : Interface) : Type 0 where
-  pub ports : List BuiltPort
-  pub interface : i ≡ port_interface ports
-  pub is : built_ports all ≡ Some ports
-  pub distinct : are_distinct (port_names ports) ≡ true
-  pub limits : IsWithinLimits i
-
-pub record AreNoNames (all : List (port.Port Name)) : Type 0 where
-  pub none : (ports : List BuiltPort) → built_ports all ≡ Some ports → are_distinct (port_names ports) ≡ true → IsWithinLimits (port_interface ports) → ⊥
+-- where statements fit, the terms of those before the rest do, and the rest fits
+pub record FitSoFar (t : Tables) (a : Around) (rest : List TypedStmt) (terms : List Term) : Type 0 where
+  pub terms_fit : AllFit t a terms
+  pub rest_fits : stmts_fit (map (fits_stmt t (kind_rules t)) rest) a ≡ true
 
 -- the terms of the statements before the rest
-pub record StatementsReach (i : Interface) (all rest : List SourceStmt) (terms : List Term) : Type 0 where
-  pub whole : all_some (map (stmt_term i) all) ≡ with_all terms (all_some (map (stmt_term i) rest))
-  pub built : AreBuilt i terms
+pub record StatementsReach (all rest : List TypedStmt) (terms : List Term) : Type 0 where
+  pub whole : all_some (map stmt_term all) ≡ with_all terms (all_some (map stmt_term rest))
+  pub built : AreBuilt terms
+  pub fit : (t : Tables) (a : Around) → stmts_fit (map (fits_stmt t (kind_rules t)) all) a ≡ true → FitSoFar t a rest terms
+
+abbrev pub AreTerms : List TypedBlock → List Term → Type 0
+AreTerms [] [] = Unit {0}
+AreTerms (b ∷ bs) (t ∷ ts) = IsTermOfBlock b t × AreTerms bs ts
+AreTerms _ _ = ⊥
 
 -- the terms of the domains before the rest
-pub record DomainsReach (i : Interface) (all rest : List SourceBlock) (terms : List Term) : Type 0 where
-  pub whole : all_some (map (block_term i) all) ≡ with_all terms (all_some (map (block_term i) rest))
-  pub built : AreBuilt i terms
-
--- the names of the ports are names of the grammar, and there is a domain
-pub record IsWhole (tree : SourceTree) : Type 0 where
-  pub some : 1 ≤ length tree.domains
-  pub named : (ports : List BuiltPort) → built_ports tree.ports ≡ Some ports → list_all is_name (port_names ports) ≡ true
-
--- the system is that of the tree's program, which keeps the rules on ports
-pub record IsSystemOf (tree : SourceTree) (system : System) : Type 0 where
-  pub program : LoweredProgram
-  pub is : program_of tree ≡ Some program
-  pub rules : KeepsNamesAndOwners program
-  pub tables : tables_of system ≡ tables_of_program program
-  pub domains : domains_of system ≡ program.terms
-  pub built : AreBuilt (port_interface program.ports) program.terms
-
-pub record HasNoSystem (tree : SourceTree) : Type 0 where
-  pub none : (p : LoweredProgram) → program_of tree ≡ Some p → KeepsNamesAndOwners p → ⊥
+pub record DomainsReach (all rest : List TypedBlock) (terms : List Term) : Type 0 where
+  pub done : List TypedBlock
+  pub split : all ≡ done ++ rest
+  pub whole : all_some (map block_term all) ≡ with_all terms (all_some (map block_term rest))
+  pub terms_of : AreTerms done terms
 
 -- the terms of all domains
-pub record AreTermsOf (i : Interface) (all : List SourceBlock) (terms : List Term) : Type 0 where
-  pub is : all_some (map (block_term i) all) ≡ Some terms
-  pub built : AreBuilt i terms
+pub record AreTermsOf (all : List TypedBlock) (terms : List Term) : Type 0 where
+  pub is : all_some (map block_term all) ≡ Some terms
+  pub terms_of : AreTerms all terms
+
+-- there is a domain, and the names of the ports are names of the grammar
+pub record IsWhole (tree : SourceTree) : Type 0 where
+  pub some : 1 ≤ length tree.domains
+  pub named : list_all is_name (map port_name tree.ports) ≡ true
+
+-- the tables keep what is promised of names, and the tree what is promised of names and kinds
+pub record IsSound (t : Tables) (tree : TypedTree) : Type 0 where
+  pub names : has_names t ≡ true
+  pub limits : is_within_limits t (length tree.domains) ≡ true
+  pub signals : list_all (has_domain (length tree.domains)) t.signals ≡ true
+  pub order : interface_comes_first t.signals ≡ true
+  pub channels : list_all (is_channel_entry (length tree.domains)) t.channels ≡ true
+  pub variables : list_all (is_variable_entry (length tree.domains)) t.variables ≡ true
+  pub fits : fits_tree t (kind_rules t) tree ≡ true
+
+-- the system is that of the tree's program
+pub record IsSystemOf (t : Tables) (tree : TypedTree) (system : System) : Type 0 where
+  pub program : LoweredProgram
+  pub is : lowered t tree ≡ Some program
+  pub tables : tables_of system ≡ program.tables
+  pub domains : domains_of system ≡ program.terms
+  pub entries : tables_are_built program.tables ≡ true
+  pub built : AreBuilt program.terms

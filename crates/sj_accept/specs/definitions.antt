@@ -1,6 +1,7 @@
 pub mod Sources
 pub mod Kinds
-pub mod Ports
+pub mod Optional
+pub mod BuiltTables
 pub mod Lowering
 pub mod Programs
 pub mod Accepted

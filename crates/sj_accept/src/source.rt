@@ -2,11 +2,12 @@ ghost use Rattle.std.specs.Prelude.{◌≤◌, ℕ, List, length, MatchResult};
 ghost use Rattle.java_values.specs.SourceLimits.{most_source_bytes};
 ghost use Rattle.sj_lexer.specs.declared.token.Token.{Token};
 ghost use Rattle.sj_lexer.specs.definitions.Readings.{AreTokens};
-ghost use Rattle.sj_lexer.specs.Lexing.{IsWhy};
+ghost use Rattle.sj_lexer.specs.definitions.Refusals.{IsWhy};
 ghost use Rattle.stmt_parser.specs.definitions.Parsing.{IsNoProgram};
 ghost use Rattle.sj_names.specs.declared.binding.Bound.{Bound as BoundTree};
 ghost use Rattle.sj_names.specs.definitions.Bindings.{IsBinding, IsWhyUnbound};
-ghost use Rattle.java_types.specs.definitions.Typings.{IsWhyUntyped};
+ghost use Rattle.java_types.specs.definitions.Typings.{IsTyping, IsWhyUntyped};
+ghost use Rattle.sj_accept.specs.Lowered.{IsWhole, IsSound};
 ghost use Rattle.sj_accept.specs.definitions.Sources.{SourceTree, IsParsed};
 ghost use Rattle.sj_accept.specs.definitions.Systems.{Accepts};
 ghost use Rattle.sj_accept.specs.definitions.Refusals.{IsWhyNot};
@@ -15,11 +16,11 @@ use crate::laws::{sources_are_one_tree, trees_are_whole};
 use crate::program::system_of;
 use crate::refusal::{AcceptError, Refusal};
 use crate::rules::keep_static_rules;
-use java_types::{TypeError, typed};
+use java_types::{TypeError, Typed, fitting_kinds, typed};
 use kernel_terms::System;
 use sj_ast::{Name, Raw, Tree};
 use sj_lexer::{LexError, lex};
-use sj_names::{BindError, bind};
+use sj_names::{BindError, Bound, bind, fitting_names, sound_interface, sound_tables};
 use std::alloc::Global;
 use stmt_parser::{ParseError, parse};
 use tick_tree::system_exits_fit;
@@ -81,6 +82,19 @@ fn read_tree(alloc: Global, source: &[u8]) -> Result<Tree<Name, Raw<Name>>, Acce
     }
 }
 
+// What is promised of the names and kinds of a tree.
+fn typed_trees_are_sound(tree: &Tree<Name, Raw<Name>>, bound: &Bound, typed: &Typed)
+    requires whole { IsWhole tree.now }
+    requires binding { IsBinding tree.now bound.now }
+    requires typing { IsTyping bound.now typed.now }
+    ensures { IsSound typed.now.tables typed.now.tree }
+{
+    sound_tables(tree);
+    sound_interface(tree);
+    fitting_names(tree);
+    fitting_kinds(bound, typed);
+}
+
 /// The system of an accepted source. A refusal is the first reason in this order: the first place where the bytes
 /// are no token, the first token that can't stand where it does or is too deep, the first failure of a name, the
 /// first failure of a kind, and then any other rule.
@@ -95,11 +109,12 @@ pub fn accept(alloc: Global, source: &[u8]) -> Result<System, AcceptError>
         Ok(bound) => bound,
         Err(error) => return Err(name_error(error)),
     };
-    let _typed = match typed(alloc, &bound) {
+    let typed = match typed(alloc, &bound) {
         Ok(typed) => typed,
         Err(error) => return Err(kind_error(error)),
     };
-    let Some(system) = system_of(alloc, &tree)? else {
+    typed_trees_are_sound(&tree, &bound, &typed);
+    let Some(system) = system_of(alloc, typed)? else {
         return Err(AcceptError::Refused(Refusal::Later));
     };
     system_exits_fit();

@@ -1,14 +1,15 @@
-ghost use Rattle.std.specs.Prelude.{◌≡◌, ◌<◌, ◌∷◌, ◌+◌, IfOk, IfSome, None, Some, true};
-ghost use Rattle.sj_accept.specs.BuiltTerms.{IsBuilt, AreBuilt, is_int};
-ghost use Rattle.sj_accept.specs.PortNames.{names_of};
-ghost use Rattle.sj_accept.specs.definitions.Lowering.{int_literal, int_expression, block_of, emit_term, send_term, receive_term, block_term, stmt_term};
+// The terms of statements.
+
+ghost use Rattle.std.specs.Prelude.{◌≡◌, ◌≤◌, IfOk, IfSome, length};
+ghost use Rattle.kernel_terms.specs.Expressions.{expression};
+ghost use Rattle.sj_accept.specs.BuiltTerms.{IsTermOf, IsTermOfBlock};
+ghost use Rattle.sj_accept.specs.definitions.Lowering.{block_of, int_of, send_of, stmt_term, block_term};
 
 use crate::lists::first_of;
-use crate::names::Names;
 use java_values::{Kind, NoMemory};
 use kernel_terms::{Expr, ExprForm, Form, Term};
 use sj_ast as ast;
-use sj_ast::{Block, Name, Raw, Stmt};
+use sj_ast::{Block, Stmt};
 use sqlite_items::{Boxed, Items};
 use std::alloc::Global;
 
@@ -33,53 +34,26 @@ pub fn sequence(at: u32, mut terms: Vec<Term>) -> Term
 }
 
 /// The number of a literal of the kind `int`.
-fn int_literal(value: &Raw<Name>) -> Option<i64>
-    ensures number { result ≡ int_literal value.now }
-    ensures range { IfSome result (λ n. is_int n ≡ true) }
+#[tactic(auto, using(crate::proofs::LiteralLemmas::literals))]
+fn int_literal(value: &Expr) -> Option<i64>
+    ensures { result ≡ int_of (expression value.now) }
 {
-    match value {
-        Raw::Literal { at: _, value } => match value.kind() {
-            Kind::Int => Some(value.number()),
-            Kind::Boolean => None,
-            Kind::Byte => None,
-            Kind::Short => None,
-            Kind::Char => None,
-            Kind::Long => None,
+    match value.kind {
+        Kind::Int => match value.form {
+            ExprForm::Literal(number) => Some(number),
+            _ => None,
         },
-        _ => None,
+        Kind::Boolean => None,
+        Kind::Byte => None,
+        Kind::Short => None,
+        Kind::Char => None,
+        Kind::Long => None,
     }
 }
 
-fn emission(at: u32, names: &Names<'_>, name: &[u8]) -> Option<Term>
-    ensures value { result ≡ emit_term (names_of names.now) at name.now }
-    ensures built { IfSome result (IsBuilt (names_of names.now)) }
+fn sending(at: u32, channel: u32, value: &Expr) -> Option<Term>
+    ensures { result ≡ send_of at channel (int_of (expression value.now)) }
 {
-    let signal = names.signals.number(name)?;
-    Some(Term {
-        at,
-        form: Form::Emit {
-            signal,
-            value: None,
-        },
-    })
-}
-
-fn reception(at: u32, names: &Names<'_>, name: &[u8]) -> Option<Term>
-    ensures value { result ≡ receive_term (names_of names.now) at name.now }
-    ensures built { IfSome result (IsBuilt (names_of names.now)) }
-{
-    let channel = names.channels.number(name)?;
-    Some(Term {
-        at,
-        form: Form::Receive { channel },
-    })
-}
-
-fn sending(at: u32, names: &Names<'_>, name: &[u8], value: &Raw<Name>) -> Option<Term>
-    ensures value { result ≡ send_term (names_of names.now) at name.now value.now }
-    ensures built { IfSome result (IsBuilt (names_of names.now)) }
-{
-    let channel = names.channels.number(name)?;
     let number = int_literal(value)?;
     let value = Expr {
         kind: Kind::Int,
@@ -91,15 +65,12 @@ fn sending(at: u32, names: &Names<'_>, name: &[u8], value: &Raw<Name>) -> Option
     })
 }
 
-/// The term of a statement, where its form is built and its names are declared.
+/// The term of a statement, where its form is built.
 #[cycle(lowering)]
-fn statement_term(
-    alloc: Global,
-    names: &Names<'_>,
-    statement: &Stmt<Name, Raw<Name>>,
-) -> Result<Option<Term>, NoMemory>
-    ensures value { IfOk result (λ o. o ≡ stmt_term (names_of names.now) statement.now) }
-    ensures built { IfOk result (λ o. IfSome o (IsBuilt (names_of names.now))) }
+#[tactic(auto, using(crate::proofs::StatementLemmas::terms_of_statements))]
+fn statement_term(alloc: Global, statement: &Stmt<u32, Expr>) -> Result<Option<Term>, NoMemory>
+    ensures value { IfOk result (λ o. o ≡ stmt_term statement.now) }
+    ensures term { IfOk result (λ o. IfSome o (IsTermOf statement.now)) }
 {
     let at = statement.at;
     match &statement.form {
@@ -115,15 +86,24 @@ fn statement_term(
             name_at: _,
             name,
             value: None,
-        } => Ok(emission(at, names, name.text.bytes())),
+        } => Ok(Some(Term {
+            at,
+            form: Form::Emit {
+                signal: *name,
+                value: None,
+            },
+        })),
         ast::Form::Send {
             name_at: _,
             name,
             value,
-        } => Ok(sending(at, names, name.text.bytes(), value)),
-        ast::Form::Receive { name_at: _, name } => Ok(reception(at, names, name.text.bytes())),
+        } => Ok(sending(at, *name, value)),
+        ast::Form::Receive { name_at: _, name } => Ok(Some(Term {
+            at,
+            form: Form::Receive { channel: *name },
+        })),
         ast::Form::While(body) => {
-            let Some(body) = block_term(alloc, names, body)? else {
+            let Some(body) = block_term(alloc, body)? else {
                 return Ok(None);
             };
             Ok(Some(Term {
@@ -137,20 +117,16 @@ fn statement_term(
 
 /// The term of a block, where all its statements have one.
 #[cycle(lowering)]
-pub fn block_term(
-    alloc: Global,
-    names: &Names<'_>,
-    block: &Block<Name, Raw<Name>>,
-) -> Result<Option<Term>, NoMemory>
-    ensures value { IfOk result (λ o. o ≡ block_term (names_of names.now) block.now) }
-    ensures built { IfOk result (λ o. IfSome o (IsBuilt (names_of names.now))) }
+pub fn block_term(alloc: Global, block: &Block<u32, Expr>) -> Result<Option<Term>, NoMemory>
+    ensures value { IfOk result (λ o. o ≡ block_term block.now) }
+    ensures term { IfOk result (λ o. IfSome o (IsTermOfBlock block.now)) }
 {
     let statements = block.statements.as_slice();
     let mut terms = Vec::new(alloc);
     for i in 0..statements.len() {
         let statement = &statements[i];
         first_of(statements, i, statement);
-        let Some(term) = statement_term(alloc, names, statement)? else {
+        let Some(term) = statement_term(alloc, statement)? else {
             return Ok(None);
         };
         terms.push(term)?;

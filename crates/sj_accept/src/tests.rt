@@ -1,4 +1,5 @@
 use crate::{AcceptError, MOST_SOURCE_BYTES, Refusal, accept};
+use java_types::TypeFailure;
 use sj_names::{Failure, Fault};
 use std::alloc::{AllocError, Global};
 use std::test::Fail;
@@ -53,7 +54,7 @@ fn accepts_built_forms(rt: HostRuntime) -> Result<(), Fail> {
 
 #[test]
 fn tells_the_first_reason(rt: HostRuntime) -> Result<(), Fail> {
-    let cases: [(&[u8], Refusal); 10] = [
+    let cases: [(&[u8], Refusal); 12] = [
         (b"", Refusal::Syntax(0)),
         (b"system{interface{}{@}}", Refusal::BadByte(19)),
         (b"system{interface{}{pause;} 08", Refusal::BadNumber(27)),
@@ -67,6 +68,14 @@ fn tells_the_first_reason(rt: HostRuntime) -> Result<(), Fail> {
         (
             b"system{interface{int channel C;}{send C(4294967296);}}",
             Refusal::BadNumber(40),
+        ),
+        (
+            b"system{interface{output signal A;}{emit A(1);}}",
+            Refusal::Kinds(TypeFailure::Mismatch(40)),
+        ),
+        (
+            b"system{interface{output int signal A;}{emit A(1/0);}}",
+            Refusal::Kinds(TypeFailure::Divisor(48)),
         ),
         (b"system{interface{}{halt;}}", Refusal::Later),
         (

@@ -21,7 +21,6 @@ use Rattle.sj_main.specs.declared.order.Made.{Made}
 use Rattle.sj_main.specs.declared.order.OrderError.{OrderError}
 use Rattle.sj_main.specs.declared.order.OrderError.TheVariants.{Fault, Size, Refused, DomainsDoNotFit, OverWeight, NoMemory}
 use Rattle.sj_main.specs.CommandWords.{AreFew}
-use Rattle.sj_accept.specs.definitions.Programs.{tables_of_program}
 use Rattle.sj_accept.specs.definitions.Systems.{Accepts}
 use Rattle.sj_main.proofs.SourceSystemLemmas.{same_setup, same_count}
 use Rattle.sj_main.specs.OrderSteps.{IsMadeFrom, RunsTurns, WeighsTooMuch, IsWhyNoRun, IsWhyNotMade}
@@ -166,7 +165,7 @@ weight_as : (bytes : List ℕ) (system : System) (turns : Turns) → (a : Accept
     run_weight (tables_of system) (budgets_for turns (length (domains_of system))) ≡ run_weight_of a.program turns
 weight_as bytes system turns a =
     ap (λ t. run_weight t (budgets_for turns (length (domains_of system)))) a.tables
-    ∙ ap (λ n. run_weight (tables_of_program a.program) (budgets_for turns n)) (same_count bytes system a)
+    ∙ ap (λ n. run_weight a.program.tables (budgets_for turns n)) (same_count bytes system a)
 
 pub made_from : (bytes : List ℕ) (turns : Turns) (made : Made) → Accepts bytes made.system → RunsTurns made.system turns (run_state made.run) → IsMadeFrom bytes turns made
 made_from bytes turns made a r =

@@ -18,8 +18,7 @@ use Rattle.domain_core.proofs.lemmas.runs.ScheduledTurns.{scheduled_by_step, sch
 use Rattle.domain_core.proofs.lemmas.runs.WorkedRuns.{env_in, ticked, takes_turn, zeros}
 use Rattle.sj_main.specs.declared.commands.Turns.{Turns}
 use Rattle.sj_main.specs.declared.commands.Turns.TheVariants.{Each}
-use Rattle.sj_accept.specs.definitions.Ports.{port_interface}
-use Rattle.sj_accept.specs.definitions.Programs.{LoweredProgram, domain_statements, tables_for}
+use Rattle.sj_accept.specs.definitions.Programs.{LoweredProgram, domain_statements}
 use Rattle.sj_accept.specs.definitions.Accepted.{IsSourceOf}
 use Rattle.sj_main.specs.definitions.Commands.{turns_for, FitDomains, budgets_for}
 use Rattle.sj_main.specs.definitions.RunWeight.{most_run_weight, run_weight}
@@ -30,7 +29,7 @@ use Rattle.sj_accept.proofs.SmallPrograms.{blinks, loops, loop_body, empty_is_so
 
 -- a program whose domains have these statements, as the rules take it
 abbrev pub setup_with : LoweredProgram → List Stmt → Setup
-setup_with p ps = record { tables = tables_for (port_interface p.ports) ps; statements = ps; inputs = no_inputs }
+setup_with p ps = record { tables = p.tables; statements = ps; inputs = no_inputs }
 
 -- digits
 
@@ -110,11 +109,11 @@ pub record IsShownBy (p : Setup) (run : RunState) (turns : List ℕ) (end : Syst
 -- the turns fit so many domains, and their run isn't too heavy
 pub record IsLight (p : LoweredProgram) (ps : List Stmt) (turns : Turns) : Type 0 where
   pub fit : FitDomains turns (length ps)
-  pub weight : run_weight (tables_for (port_interface p.ports) ps) (budgets_for turns (length ps)) ≤ most_run_weight
+  pub weight : run_weight p.tables (budgets_for turns (length ps)) ≤ most_run_weight
 
 -- the run of a source, whose domains have these statements, is told by its turns
 pub told_run : (bytes : List ℕ) (turns : Turns) (text : List ℕ) (p : LoweredProgram) (ps : List Stmt) (run : RunState) (end : SystemState) → IsSourceOf bytes p → domain_statements p ≡ ps → IsLight p ps turns → IsSystem (setup_with p ps) → AreWaitless ps
-    → Fits (setup_with p ps) run → IsShownBy (setup_with p ps) run (turns_for turns (length ps)) end → text ≡ run_text (tables_for (port_interface p.ports) ps) run → IsTextOfRun bytes turns text
+    → Fits (setup_with p ps) run → IsShownBy (setup_with p ps) run (turns_for turns (length ps)) end → text ≡ run_text p.tables run → IsTextOfRun bytes turns text
 told_run bytes turns text p ps run end source statements light system waitless fits shown is =
     let setup = setup_with p ps in
     let all = turns_for turns (length ps) in
@@ -127,13 +126,13 @@ told_run bytes turns text p ps run end source statements light system waitless f
       source = source;
       can = record {
         fit = subst (λ (qs : List Stmt). FitDomains turns (length qs)) same light.fit;
-        weight = subst (λ (qs : List Stmt). run_weight (tables_for (port_interface p.ports) qs) (budgets_for turns (length qs)) ≤ most_run_weight) same light.weight;
+        weight = subst (λ (qs : List Stmt). run_weight p.tables (budgets_for turns (length qs)) ≤ most_run_weight) same light.weight;
       };
       run = run;
       last = end;
       scheduled = subst (λ (qs : List Stmt). IsScheduledRun (setup_with p qs) run (turns_for turns (length qs)) end) same scheduled;
       whole = subst (λ (qs : List Stmt). IsWholeRun (setup_with p qs) run (turns_for turns (length qs))) same whole;
-      is = subst (λ (qs : List Stmt). text ≡ run_text (tables_for (port_interface p.ports) qs) run) same is;
+      is = is;
     }
 
 -- one domain, and no channel

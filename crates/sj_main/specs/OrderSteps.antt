@@ -15,7 +15,7 @@ use Rattle.sj_main.specs.declared.commands.Turns.{Turns}
 use Rattle.sj_main.specs.declared.order.Made.{Made}
 use Rattle.sj_main.specs.declared.order.OrderError.{OrderError}
 use Rattle.sj_main.specs.declared.order.OrderError.TheVariants.{Fault, Size, Refused, DomainsDoNotFit, OverWeight, NoMemory}
-use Rattle.sj_accept.specs.definitions.Programs.{LoweredProgram, tables_of_program}
+use Rattle.sj_accept.specs.definitions.Programs.{LoweredProgram}
 use Rattle.sj_accept.specs.definitions.Accepted.{IsSourceOf}
 use Rattle.sj_accept.specs.definitions.Refusals.{IsRefusedFor}
 use Rattle.sj_main.specs.definitions.ProgramSetups.{program_setup}
@@ -29,7 +29,7 @@ pub record IsMadeFrom (bytes : List ℕ) (turns : Turns) (made : Made) : Type 0 
   pub program : LoweredProgram
   pub source : IsSourceOf bytes program
   pub can : CanRun program turns
-  pub tables : tables_of made.system ≡ tables_of_program program
+  pub tables : tables_of made.system ≡ program.tables
   pub last : SystemState
   pub scheduled : IsScheduledRun (program_setup program no_inputs) (run_state made.run) (turns_of_program program turns) last
   pub whole : IsWholeRun (program_setup program no_inputs) (run_state made.run) (turns_of_program program turns)

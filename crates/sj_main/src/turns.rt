@@ -7,7 +7,7 @@ ghost use Rattle.kernel_terms.specs.Limits.{most_domains};
 ghost use Rattle.kernel_terms.specs.TableEntries.{is_interface_of, numbers_where};
 ghost use Rattle.domain_core.specs.definitions.runs.Scheduled.{turns_of};
 ghost use Rattle.sj_main.specs.CommandWords.{AreFew};
-ghost use Rattle.sj_main.specs.definitions.Commands.{most_turns, rounds_of, turns_for, FitDomains, budgets_for};
+ghost use Rattle.sj_main.specs.definitions.Commands.{most_turns, rounds_of, FitDomains, budgets_for};
 ghost use Rattle.sj_main.specs.definitions.RunWeight.{domain_weight, end_weight, channel_weight, run_weight};
 
 use crate::commands::Turns;

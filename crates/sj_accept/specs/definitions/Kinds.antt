@@ -1,11 +1,25 @@
--- What is wrong with the kinds of a tree whose names have no failure.
-use Rattle.std.specs.Prelude.{List}
-use Rattle.java_types.specs.declared.failure.TypeFailure.{TypeFailure}
-use Rattle.java_types.specs.definitions.TypedTrees.{checked_tree}
+-- The kinds of a tree whose names have no failure.
+use Rattle.std.specs.Prelude.{ℕ, List, Option}
+use Rattle.kernel_terms.specs.declared.expr.Expr.{Expr}
+use Rattle.sj_ast.specs.declared.statement.Tree.{Tree}
 use Rattle.sj_names.specs.definitions.NumberedTrees.{numbered_tree}
 use Rattle.sj_names.specs.definitions.DeclaredTables.{tables_of_tree}
+use Rattle.java_types.specs.declared.failure.TypeFailure.{TypeFailure}
+use Rattle.java_types.specs.definitions.Checks.{Checked}
+use Rattle.java_types.specs.definitions.TypedTrees.{checked_tree}
 use Rattle.sj_accept.specs.definitions.Sources.{SourceTree}
 
--- in the order in which the source is read
+abbrev pub TypedTree : Type 0
+TypedTree = Tree ℕ Expr
+
+-- the tree with numbers, with its kinds
+abbrev pub checked_source : SourceTree → Checked TypedTree
+checked_source tree = checked_tree (tables_of_tree tree) (numbered_tree tree)
+
+-- what is wrong with them, in the order in which the source is read
 abbrev pub kind_failures : SourceTree → List TypeFailure
-kind_failures tree = (checked_tree (tables_of_tree tree) (numbered_tree tree)).failures
+kind_failures tree = (checked_source tree).failures
+
+-- the tree with kinds, where nothing is wrong
+abbrev pub typed_tree : SourceTree → Option TypedTree
+typed_tree tree = (checked_source tree).value

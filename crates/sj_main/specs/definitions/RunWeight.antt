@@ -5,7 +5,7 @@ use Rattle.kernel_terms.specs.declared.tables.ChannelInfo.{ChannelInfo}
 use Rattle.kernel_terms.specs.declared.tables.Tables.{Tables}
 use Rattle.kernel_terms.specs.TableEntries.{interface_of}
 use Rattle.sj_main.specs.declared.commands.Turns.{Turns}
-use Rattle.sj_accept.specs.definitions.Programs.{LoweredProgram, domain_statements, tables_of_program}
+use Rattle.sj_accept.specs.definitions.Programs.{LoweredProgram, domain_statements}
 use Rattle.sj_main.specs.definitions.Commands.{turns_for, budgets_for}
 
 abbrev pub most_run_weight : ℕ
@@ -33,4 +33,4 @@ abbrev pub turns_of_program : LoweredProgram → Turns → List ℕ
 turns_of_program p turns = turns_for turns (domain_count_of p)
 
 abbrev pub run_weight_of : LoweredProgram → Turns → ℕ
-run_weight_of p turns = run_weight (tables_of_program p) (budgets_for turns (domain_count_of p))
+run_weight_of p turns = run_weight p.tables (budgets_for turns (domain_count_of p))

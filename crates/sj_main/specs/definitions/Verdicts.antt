@@ -15,7 +15,7 @@ use Rattle.sj_accept.specs.declared.refusal.Refusal.{Refusal}
 use Rattle.java_types.specs.declared.failure.TypeFailure.{TypeFailure}
 use Rattle.java_types.specs.declared.failure.TypeFailure.TheVariants as kinds
 use Rattle.sj_accept.specs.declared.refusal.Refusal.TheVariants as refusal
-use Rattle.sj_accept.specs.definitions.Programs.{LoweredProgram, tables_of_program}
+use Rattle.sj_accept.specs.definitions.Programs.{LoweredProgram}
 use Rattle.sj_accept.specs.definitions.Accepted.{IsSourceOf}
 use Rattle.sj_accept.specs.definitions.Refusals.{IsRefusedFor}
 use Rattle.sj_main.specs.definitions.ProgramSetups.{program_setup}
@@ -81,7 +81,7 @@ pub record IsTextOfRun (bytes : List ℕ) (turns : Turns) (text : List ℕ) : Ty
   pub last : SystemState
   pub scheduled : IsScheduledRun (program_setup program no_inputs) run (turns_of_program program turns) last
   pub whole : IsWholeRun (program_setup program no_inputs) run (turns_of_program program turns)
-  pub is : text ≡ run_text (tables_of_program program) run
+  pub is : text ≡ run_text program.tables run
 
 -- the first check that fails refuses the bytes with this line
 pub data IsRefusal (bytes text : List ℕ) : Type 0 where

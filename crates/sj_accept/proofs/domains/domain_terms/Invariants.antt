@@ -1,7 +1,6 @@
 use Rattle.std.proofs.Common.{drop}
-use Rattle.sj_accept.specs.PortNames.{names_of}
 use Rattle.sj_accept.specs.Lowered.{DomainsReach}
 use Rattle.sj_accept.proofs.domains.domain_terms.Given as goal
 
 abbrev pub invariant-loop-i : goal.invariant-loop-i
-invariant-loop-i l = DomainsReach (names_of l.names) l.domains (drop l.i l.domains) l.terms.items
+invariant-loop-i l = DomainsReach l.domains (drop l.i l.domains) l.terms.items

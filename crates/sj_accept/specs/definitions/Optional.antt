@@ -1,5 +1,5 @@
 -- Lists of options, all of which there must be.
-use Rattle.std.specs.Prelude.{List, [], ◌∷◌, ◌++◌, Option, Some, None}
+use Rattle.std.specs.Prelude.{List, [], ◌∷◌, Option, Some, None}
 
 abbrev pub with_first : {X : Type 0} → X → Option (List X) → Option (List X)
 with_first x None = None
@@ -10,7 +10,3 @@ abbrev pub all_some : {X : Type 0} → List (Option X) → Option (List X)
 all_some [] = Some []
 all_some (None ∷ os) = None
 all_some (Some x ∷ os) = with_first x (all_some os)
-
-abbrev pub with_all : {X : Type 0} → List X → Option (List X) → Option (List X)
-with_all xs None = None
-with_all xs (Some ys) = Some (xs ++ ys)
