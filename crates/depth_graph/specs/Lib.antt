@@ -1,0 +1,2 @@
+pub mod SmallCopies
+pub mod definitions

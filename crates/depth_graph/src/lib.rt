@@ -1,0 +1,8 @@
+//! The equations of a resuming tick of a statement: they tell a tick of what its registers stand for.
+#![tactic(auto)]
+
+mod laws;
+mod rows;
+
+pub use laws::{resuming_copies_tell_ticks, resuming_ticks_are_told};
+pub use rows::{resuming_emission, resuming_loop, resuming_pause, resuming_sequence};

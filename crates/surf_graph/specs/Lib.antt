@@ -1,0 +1,3 @@
+pub mod PartSolutions
+pub mod SmallCopies
+pub mod definitions

@@ -1,0 +1,7 @@
+pub mod Copies
+pub mod Formulas
+pub mod Shows
+pub mod Sources
+pub mod SpelledOut
+pub mod StartingCopies
+pub mod Tells

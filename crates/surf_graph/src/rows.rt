@@ -1,0 +1,46 @@
+//! Starting copies of small statements, by computation.
+
+ghost use Rattle.std.specs.Prelude.{◌≡◌, pos, [], ◌∷◌};
+ghost use Rattle.kernel_terms.specs.declared.tables.Tables.{Tables};
+ghost use Rattle.kernel_terms.specs.Statements.{Pause, Par};
+ghost use Rattle.surf_graph.specs.definitions.Formulas.{Const, And, Status};
+ghost use Rattle.surf_graph.specs.definitions.StartingCopies.{start};
+ghost use Rattle.surf_graph.specs.SmallCopies.{given, is, sets, emits, emission};
+ghost use Rattle.surf_graph.specs.SmallCopies.{emission_then_pause, pause_then_emission};
+ghost use Rattle.surf_graph.specs.SmallCopies.{emission_then_pause_equations, pause_then_emission_equations};
+ghost use Rattle.surf_graph.specs.SmallCopies.{pause_beside_emission_equations};
+
+/// A pause that starts has the code 1, and its register is set where it is kept.
+pub fn starting_pause()
+    ensures equations { (tables : Tables)
+        → (start tables Pause given).equations ≡ is 8 (Status 1 1) ∷ is 9 (And 1 3) ∷ [] }
+    ensures status { (tables : Tables) → (start tables Pause given).status ≡ 8 }
+    ensures sets { (tables : Tables) → (start tables Pause given).sets 0 ≡ sets 9 9 ∷ [] }
+    ensures next { (tables : Tables) → (start tables Pause given).next ≡ 10 }
+{}
+
+/// An emission has the code 0, and its condition is that it starts.
+pub fn starting_emission()
+    ensures equations { (tables : Tables)
+        → (start tables (emission 5) given).equations ≡ is 8 (Status 1 0) ∷ is 9 (Const (pos 0)) ∷ [] }
+    ensures emits { (tables : Tables) → (start tables (emission 5) given).emits ≡ emits 5 1 9 ∷ [] }
+    ensures sets { (tables : Tables) → (start tables (emission 5) given).sets 0 ≡ [] }
+{}
+
+/// The second part of a sequence starts where the first has ended, and has no equations where the first
+/// can't end.
+pub fn starting_sequence()
+    ensures starts { (tables : Tables)
+        → (start tables emission_then_pause given).equations ≡ emission_then_pause_equations }
+    ensures starts_sets { (tables : Tables)
+        → (start tables emission_then_pause given).sets 0 ≡ sets 14 14 ∷ [] }
+    ensures waits { (tables : Tables)
+        → (start tables pause_then_emission given).equations ≡ pause_then_emission_equations }
+    ensures waits_emits { (tables : Tables) → (start tables pause_then_emission given).emits ≡ [] }
+{}
+
+/// Both branches of a parallel start, and keep their registers where the whole pauses.
+pub fn starting_parallel()
+    ensures { (tables : Tables)
+        → (start tables (Par Pause (emission 5)) given).equations ≡ pause_beside_emission_equations }
+{}
