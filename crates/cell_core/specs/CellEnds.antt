@@ -26,7 +26,8 @@ standing_offer a (Taken j) = Some (offered a j.value j.mine)
 
 -- the end at a side of a cell
 abbrev pub end_of_cell : Kind → ℕ → Side → CellState → EndView
-end_of_cell kind room a c = record { side = a; kind = kind; offer = standing_offer a (standing_at a c); room = room }
+end_of_cell kind room a c =
+    record { side = a; kind = kind; offer = standing_offer a (standing_at a c); room = room }
 
 -- a sender's value in the kind and a stamp below 2^62
 pub record OfferFits (kind : Kind) (a : Side) (v : ℤ) (s : ℕ) : Type 0 where

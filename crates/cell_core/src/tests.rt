@@ -46,7 +46,8 @@ impl Ends for TwoEnds {
 
     ghost end_at = { λ e at. end_of_cell e.0 2 (cond (nat_eq at 0) sides.Sender sides.Receiver) e.1 };
 
-    ghost moved = { λ old at m answer new. (new.0 ≡ old.0) × (new.1 ≡ cell_step m old.1) × (answer ≡ cell_reply m old.1) };
+    ghost moved = { λ old at m answer new. (new.0 ≡ old.0) × (new.1 ≡ cell_step m old.1) ×
+        (answer ≡ cell_reply m old.1) };
 
     fn recall(&mut self, at: usize) -> Option<Joined> {
         self.cell.recall(side_at(at))
@@ -66,7 +67,8 @@ fn offer_and_recall<E: Ends>(ends: &mut E, at: usize, value: i64, stamp: u64) ->
     requires value { ValueFits (E.end_at ends.old at).side (E.end_at ends.old at).kind value }
     ensures joined { IfSome result (JoinsOffer (E.end_at ends.old at) value stamp) }
     ensures free { IsNone (E.end_at ends.new at).offer }
-    ensures others { (q : ℕ) → q < E.count ends.old → q ≢ at → E.end_at ends.new q ≡ E.end_at ends.old q }
+    ensures others { (q : ℕ) → q < E.count ends.old → q ≢ at →
+        E.end_at ends.new q ≡ E.end_at ends.old q }
     ensures calls { (calls : List EndCall) × Through E.moved ends.old calls ends.new }
 {
     let at_once = ends.offer(at, value, stamp);

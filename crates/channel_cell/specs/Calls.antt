@@ -23,7 +23,15 @@ use Rattle.channel_cell.specs.Rule.{Sat, nothing, knows, knows_in}
 
 -- what is seen of an end whose seat knows this
 abbrev pub end_state : TableId → Side → Knows → ℕ → EndState
-end_state channel side k room = record { channel = channel; side = side; kind = k.kind; moves = k.moves; offer = offer_of (tally k.moves); room = room }
+end_state channel side k room =
+    record {
+      channel = channel;
+      side = side;
+      kind = k.kind;
+      moves = k.moves;
+      offer = offer_of (tally k.moves);
+      room = room;
+    }
 
 -- what a seat of one side knows
 
@@ -54,7 +62,8 @@ pub record IsSeated (table seat : TableId) (side : Side) (me : Sat) : Type 0 whe
   pub view : me ≡ (Own side (knows_in me.0), [])
 
 -- the seat has made one more move, and whether it joined
-pub record Moved (side : Side) (k : Knows) (m : CellMove) (v : ℤ) (s : ℕ) (joined : Bool) (new : Sat) : Type 0 where
+pub record Moved (side : Side) (k : Knows) (m : CellMove) (v : ℤ) (s : ℕ) (joined : Bool)
+    (new : Sat) : Type 0 where
   pub place : ℕ
   pub reply : Option Joined
   pub value : ℤ
@@ -67,7 +76,8 @@ pub record Moved (side : Side) (k : Knows) (m : CellMove) (v : ℤ) (s : ℕ) (j
   pub legal : LegalFor side (k.moves ++ entry place m reply ∷ []) theirs
 
 -- the seat has made one more move, with this answer
-pub record Done (side : Side) (k : Knows) (m : CellMove) (v : ℤ) (s : ℕ) (answer : Option Joined) (new : Sat) : Type 0 where
+pub record Done (side : Side) (k : Knows) (m : CellMove) (v : ℤ) (s : ℕ) (answer : Option Joined)
+    (new : Sat) : Type 0 where
   pub place : ℕ
   pub value : ℤ
   pub stamp : ℕ
@@ -87,7 +97,8 @@ IsValue None v = Unit {0}
 IsValue (Some i) v = v ≡ i.value
 
 -- what an end keeps
-pub record KeepsEnd (table channel : TableId) (side : Side) (me : Sat) (joins counter : ℕ) (standing : Bool) (value : ℤ) (stamp room : ℕ) : Type 0 where
+pub record KeepsEnd (table channel : TableId) (side : Side) (me : Sat) (joins counter : ℕ)
+    (standing : Bool) (value : ℤ) (stamp room : ℕ) : Type 0 where
   pub seated : IsSeated table channel side me
   pub joins_are : joins ≡ (tally_in me).joins
   pub counter_is : counter ≡ (tally_in me).counter
@@ -125,20 +136,30 @@ pub record IsJoined (table seat : TableId) (me : Sat) : Type 0 where
   pub view : me ≡ (Both (held Sender me) (held Receiver me), [])
 
 -- one more move of a side, behind all moves, and whether it joined
-pub record MovedBoth (side : Side) (old : Sat) (m : CellMove) (v : ℤ) (s : ℕ) (joined : Bool) (new : Sat) : Type 0 where
+pub record MovedBoth (side : Side) (old : Sat) (m : CellMove) (v : ℤ) (s : ℕ) (joined : Bool)
+    (new : Sat) : Type 0 where
   pub reply : Option Joined
   pub value : ℤ
   pub stamp : ℕ
-  pub now : new ≡ (replaced side old (knows (held side old).kind ((held side old).moves ++ entry (moves_made old) m reply ∷ []) value stamp), [])
+  pub now : new ≡ (
+    replaced side old (knows (held side old).kind ((held side old).moves ++
+        entry (moves_made old) m reply ∷ []) value stamp),
+    [],
+  )
   pub answered : is_some reply ≡ joined
   pub own : IsOwn side reply v s
   pub fits : IfSome reply (JoinFits (held side old).kind)
 
 -- one more move of a side, behind all moves, with this answer
-pub record DoneBoth (side : Side) (old : Sat) (m : CellMove) (answer : Option Joined) (new : Sat) : Type 0 where
+pub record DoneBoth (side : Side) (old : Sat) (m : CellMove) (answer : Option Joined) (new : Sat) :
+    Type 0 where
   pub value : ℤ
   pub stamp : ℕ
-  pub now : new ≡ (replaced side old (knows (held side old).kind ((held side old).moves ++ entry (moves_made old) m answer ∷ []) value stamp), [])
+  pub now : new ≡ (
+    replaced side old (knows (held side old).kind ((held side old).moves ++
+        entry (moves_made old) m answer ∷ []) value stamp),
+    [],
+  )
   pub fits : IfSome answer (JoinFits (held side old).kind)
 
 -- a side's list with its last recall at place n, where it stood
@@ -151,5 +172,6 @@ pub record RecallsLast (a b : List Entry) (sent received : Option Joined) : Type
   pub sender : List Entry
   pub receiver : List Entry
   pub at_sender : RecalledIf Sender (length a + length b) (tally a).standing a sent sender
-  pub at_receiver : RecalledIf Receiver (length sender + length b) (tally b).standing b received receiver
+  pub at_receiver : RecalledIf Receiver (length sender + length b) (tally b).standing b received
+      receiver
   pub legal : IsCellHistory sender receiver

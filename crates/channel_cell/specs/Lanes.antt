@@ -46,7 +46,8 @@ SaysLast words side (Some j) n = Says words side n j.value j.theirs
 -- The lanes of a side, which is x and knows n joins, where the other side is y, knows k joins and was last
 -- replied r: they hold its offer while that is open, the join that the other side hasn't yet recalled, and
 -- the join that the other side was last replied.
-pub record Shows (words : List ℕ) (side : Side) (x : Standing) (n : ℕ) (y : Standing) (k : ℕ) (r : Option Joined) : Type 0 where
+pub record Shows (words : List ℕ) (side : Side) (x : Standing) (n : ℕ) (y : Standing) (k : ℕ)
+    (r : Option Joined) : Type 0 where
   pub of_open : SaysOpen words side x n
   pub of_taken : SaysTaken words side y k
   pub of_last : SaysLast words side r (k + 1)

@@ -43,7 +43,9 @@ both_views Spent v = Spent
 
 -- the views before the seats are split, while both ends have theirs, and after the seats are joined
 abbrev pub Seated : List View → Knows → Knows → Type 0
-Seated views a b = ((views ≡ First a.kind ∷ []) × (a ≡ nothing a.kind) × (b ≡ nothing a.kind)) ⊎ (views ≡ Own Sender a ∷ Own Receiver b ∷ []) ⊎ (views ≡ Both a b ∷ Spent ∷ [])
+Seated views a b =
+    ((views ≡ First a.kind ∷ []) × (a ≡ nothing a.kind) × (b ≡ nothing a.kind)) ⊎
+    (views ≡ Own Sender a ∷ Own Receiver b ∷ []) ⊎ (views ≡ Both a b ∷ Spent ∷ [])
 
 abbrev pub joins_of : Knows → ℕ
 joins_of k = (tally k.moves).joins
@@ -58,8 +60,10 @@ pub record Agrees (words : List ℕ) (a b : Knows) : Type 0 where
   pub fit : AllFit a.kind counts.history.moves
   pub sender_notes : Says words Sender (joins_of a) a.value a.stamp
   pub receiver_notes : Says words Receiver (joins_of b) b.value b.stamp
-  pub sender_shows : Shows words Sender (cell_after counts.history.moves).sender (joins_of a) (cell_after counts.history.moves).receiver (joins_of b) (last_of b)
-  pub receiver_shows : Shows words Receiver (cell_after counts.history.moves).receiver (joins_of b) (cell_after counts.history.moves).sender (joins_of a) (last_of a)
+  pub sender_shows : Shows words Sender (cell_after counts.history.moves).sender (joins_of a)
+      (cell_after counts.history.moves).receiver (joins_of b) (last_of b)
+  pub receiver_shows : Shows words Receiver (cell_after counts.history.moves).receiver (joins_of b)
+      (cell_after counts.history.moves).sender (joins_of a) (last_of a)
 
 pub record Held (words : List ℕ) (views : List View) : Type 0 where
   pub sender : Knows
@@ -77,7 +81,8 @@ Sat = Me (Unit {0}) View
 -- a store changes what the seat notes
 abbrev pub value_tells : View → ℕ → Sat → Type 0
 value_tells (First kind) new me = Unit {0}
-value_tells (Own side k) new me = me ≡ (Own side (knows k.kind k.moves (cast_signed w64 new) k.stamp), [])
+value_tells (Own side k) new me =
+    me ≡ (Own side (knows k.kind k.moves (cast_signed w64 new) k.stamp), [])
 value_tells (Both a b) new me = Unit {0}
 value_tells Spent new me = Unit {0}
 
@@ -89,11 +94,14 @@ stamp_tells Spent new me = Unit {0}
 
 -- One move more, behind the others, at the place that the word gives. It joins where J holds, and not where
 -- N does. With some moves of the other side, the moves are a legal history.
-pub record Adds (side : Side) (wrap : Knows → View) (k : Knows) (found : ℕ) (m : CellMove) (offered_value : ℤ) (offered_stamp : ℕ) (J N : Type 0) (new : Sat) : Type 0 where
+pub record Adds (side : Side) (wrap : Knows →
+    View) (k : Knows) (found : ℕ) (m : CellMove) (offered_value : ℤ) (offered_stamp : ℕ)
+    (J N : Type 0) (new : Sat) : Type 0 where
   pub reply : Option Joined
   pub value : ℤ
   pub stamp : ℕ
-  pub added : new ≡ (wrap (knows k.kind (k.moves ++ entry (moves_in_word found) m reply ∷ []) value stamp), [])
+  pub added : new ≡
+      (wrap (knows k.kind (k.moves ++ entry (moves_in_word found) m reply ∷ []) value stamp), [])
   pub joins : J → is_some reply ≡ true
   pub none : N → is_some reply ≡ false
   pub own : IsOwn side reply offered_value offered_stamp
@@ -104,13 +112,19 @@ pub record Adds (side : Side) (wrap : Knows → View) (k : Knows) (found : ℕ) 
 -- an offer of what the lanes hold; a receiver offers 0
 abbrev pub offer_tells : View → ℕ → Sat → Type 0
 offer_tells (First kind) found me = Unit {0}
-offer_tells (Own side k) found me = Adds side (Own side) k found (Offer side (sent_value side k.value (pos 0)) k.stamp) (sent_value side k.value (pos 0)) k.stamp (counter_in (other side) found ≡ 2 * joins_of k + 1) (counter_in (other side) found ≢ 2 * joins_of k + 1) me
+offer_tells (Own side k) found me =
+    Adds side (Own side) k found (Offer side (sent_value side k.value (pos 0)) k.stamp)
+    (sent_value side k.value (pos 0)) k.stamp (counter_in (other side) found ≡
+    2 * joins_of k + 1) (counter_in (other side) found ≢ 2 * joins_of k + 1) me
 offer_tells (Both a b) found me = Unit {0}
 offer_tells Spent found me = Unit {0}
 
 abbrev pub recall_tells : View → ℕ → Sat → Type 0
 recall_tells (First kind) found me = Unit {0}
-recall_tells (Own side k) found me = Adds side (Own side) k found (Recall side) (tally k.moves).value (tally k.moves).stamp (2 * joins_of k + 1 ≤ counter_in (other side) found) (counter_in (other side) found < 2 * joins_of k + 1) me
+recall_tells (Own side k) found me =
+    Adds side (Own side) k found (Recall side) (tally k.moves).value (tally k.moves).stamp
+    (2 * joins_of k + 1 ≤ counter_in (other side) found)
+    (counter_in (other side) found < 2 * joins_of k + 1) me
 recall_tells (Both a b) found me = Unit {0}
 recall_tells Spent found me = Unit {0}
 
@@ -118,8 +132,16 @@ recall_tells Spent found me = Unit {0}
 abbrev pub both_recall_tells : Side → View → ℕ → Sat → Type 0
 both_recall_tells side (First kind) found me = Unit {0}
 both_recall_tells side (Own a k) found me = Unit {0}
-both_recall_tells Sender (Both a b) found me = Adds Sender (λ k. Both k b) a found (Recall Sender) (tally a.moves).value (tally a.moves).stamp (2 * joins_of a + 1 ≤ counter_in Receiver found) (counter_in Receiver found < 2 * joins_of a + 1) me × (moves_in_word found ≡ length a.moves + length b.moves)
-both_recall_tells Receiver (Both a b) found me = Adds Receiver (λ k. Both a k) b found (Recall Receiver) (tally b.moves).value (tally b.moves).stamp (2 * joins_of b + 1 ≤ counter_in Sender found) (counter_in Sender found < 2 * joins_of b + 1) me × (moves_in_word found ≡ length a.moves + length b.moves)
+both_recall_tells Sender (Both a b) found me =
+    Adds Sender (λ k. Both k b) a found (Recall Sender) (tally a.moves).value (tally a.moves).stamp
+    (2 * joins_of a + 1 ≤ counter_in Receiver found)
+    (counter_in Receiver found < 2 * joins_of a + 1) me ×
+    (moves_in_word found ≡ length a.moves + length b.moves)
+both_recall_tells Receiver (Both a b) found me =
+    Adds Receiver (λ k. Both a k) b found (Recall Receiver) (tally b.moves).value
+    (tally b.moves).stamp (2 * joins_of b + 1 ≤ counter_in Sender found)
+    (counter_in Sender found < 2 * joins_of b + 1) me ×
+    (moves_in_word found ≡ length a.moves + length b.moves)
 both_recall_tells side Spent found me = Unit {0}
 
 -- what was read is what the last reply says
@@ -147,7 +169,10 @@ read_stamp_tells Spent found = Unit {0}
 abbrev pub read_both_tells : ℕ → View → ℕ → Type 0
 read_both_tells word (First kind) found = Unit {0}
 read_both_tells word (Own side k) found = Unit {0}
-read_both_tells word (Both a b) found = (word ≡ stamp_lane Receiver (joins_of a + 1) → stamp_read (last_of a) found) × (word ≡ stamp_lane Sender (joins_of b + 1) → stamp_read (last_of b) found) × (word ≡ value_lane (joins_of b + 1) → value_read (last_of b) found)
+read_both_tells word (Both a b) found =
+    (word ≡ stamp_lane Receiver (joins_of a + 1) → stamp_read (last_of a) found) ×
+    (word ≡ stamp_lane Sender (joins_of b + 1) → stamp_read (last_of b) found) ×
+    (word ≡ value_lane (joins_of b + 1) → value_read (last_of b) found)
 read_both_tells word Spent found = Unit {0}
 
 -- a look at the words once both lists are with one seat

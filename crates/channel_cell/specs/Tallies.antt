@@ -21,14 +21,59 @@ pub record Tally : Type 0 where
   pub called : Bool
 
 abbrev pub none_yet : Tally
-none_yet = record { joins = 0; counter = 0; standing = false; last = None; value = pos 0; stamp = 0; called = false }
+none_yet =
+    record {
+      joins = 0;
+      counter = 0;
+      standing = false;
+      last = None;
+      value = pos 0;
+      stamp = 0;
+      called = false;
+    }
 
 -- An offer raises the counter to one more than twice the joins, and a recall lowers it by one.
 abbrev pub counted : Tally → CellMove → Option Joined → Tally
-counted t (Offer a v s) None = record { joins = t.joins; counter = 2 * t.joins + 1; standing = true; last = None; value = v; stamp = s; called = false }
-counted t (Offer a v s) (Some j) = record { joins = t.joins + 1; counter = 2 * t.joins + 1; standing = false; last = Some j; value = v; stamp = s; called = false }
-counted t (Recall a) None = record { joins = t.joins; counter = 2 * t.joins; standing = false; last = None; value = t.value; stamp = t.stamp; called = false }
-counted t (Recall a) (Some j) = record { joins = t.joins + 1; counter = 2 * t.joins; standing = false; last = Some j; value = t.value; stamp = t.stamp; called = true }
+counted t (Offer a v s) None =
+    record {
+      joins = t.joins;
+      counter = 2 * t.joins + 1;
+      standing = true;
+      last = None;
+      value = v;
+      stamp = s;
+      called = false;
+    }
+counted t (Offer a v s) (Some j) =
+    record {
+      joins = t.joins + 1;
+      counter = 2 * t.joins + 1;
+      standing = false;
+      last = Some j;
+      value = v;
+      stamp = s;
+      called = false;
+    }
+counted t (Recall a) None =
+    record {
+      joins = t.joins;
+      counter = 2 * t.joins;
+      standing = false;
+      last = None;
+      value = t.value;
+      stamp = t.stamp;
+      called = false;
+    }
+counted t (Recall a) (Some j) =
+    record {
+      joins = t.joins + 1;
+      counter = 2 * t.joins;
+      standing = false;
+      last = Some j;
+      value = t.value;
+      stamp = t.stamp;
+      called = true;
+    }
 
 abbrev pub tally_from : Tally → List Entry → Tally
 tally_from t [] = t
@@ -77,6 +122,7 @@ most = 400001
 -- neither list is too long.
 pub record Counts (word : ℕ) (sender receiver : List Entry) : Type 0 where
   pub history : IsCellHistory sender receiver
-  pub control : word ≡ packed (length sender + length receiver) (tally sender).counter (tally receiver).counter
+  pub control : word ≡
+      packed (length sender + length receiver) (tally sender).counter (tally receiver).counter
   pub few_sent : length sender ≤ most
   pub few_received : length receiver ≤ most

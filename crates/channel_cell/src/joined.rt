@@ -143,7 +143,8 @@ pub fn settle_one(
 // Tells that both lists are a legal history.
 pub fn learn(words: &Words, seat: &mut EndSeat)
     requires joined { IsJoined words.now.shared.table_id seat.old.table_id seat.old.me }
-    ensures { IsCellHistory (held sides.Sender seat.old.me).moves (held sides.Receiver seat.old.me).moves }
+    ensures { IsCellHistory (held sides.Sender seat.old.me).moves
+        (held sides.Receiver seat.old.me).moves }
 {
     words.shared.load::<Learns>(seat, CONTROL);
 }

@@ -109,7 +109,8 @@ fn make_recall(words: &Words, seat: &mut EndSeat, side: Side, joins: u64) -> boo
 
 // The value of the last join, whose number is one less than the joins.
 fn get_value(words: &Words, seat: &mut EndSeat, join: u64) -> i64
-    requires seated { IsSeated words.now.shared.table_id seat.old.table_id sides.Receiver seat.old.me }
+    requires seated { IsSeated words.now.shared.table_id seat.old.table_id sides.Receiver
+        seat.old.me }
     requires joins { (tally_in seat.old.me).joins ≡ join + 1 }
     ensures same { (seat.new.table_id ≡ seat.old.table_id) × (seat.new.me ≡ seat.old.me) }
     ensures read { IsValue (tally_in seat.old.me).last result }

@@ -10,7 +10,8 @@ ghost use Rattle.depth_graph.specs.SmallCopies.{pauses, pauses_equations};
 
 /// A pause that is live ends where it ticks, and keeps its register where it is held and kept.
 pub fn resuming_pause()
-    ensures equations { (tables : Tables) → (resume tables Pause given).equations ≡ pause_equations }
+    ensures equations { (tables : Tables) →
+        (resume tables Pause given).equations ≡ pause_equations }
     ensures status { (tables : Tables) → (resume tables Pause given).status ≡ 10 }
     ensures live { (tables : Tables) → (resume tables Pause given).live ≡ 8 }
     ensures sets { (tables : Tables) → (resume tables Pause given).sets 0 ≡ sets 11 8 ∷ [] }
@@ -33,7 +34,8 @@ pub fn resuming_sequence()
 
 /// Where the body of a loop resumes and ends, a starting copy of it stands behind it.
 pub fn resuming_loop()
-    ensures equations { (tables : Tables) → (resume tables pauses given).equations ≡ pauses_equations }
+    ensures equations { (tables : Tables) →
+        (resume tables pauses given).equations ≡ pauses_equations }
     ensures sets { (tables : Tables)
         → (resume tables pauses given).sets 0 ≡ sets 14 11 ∷ sets 16 16 ∷ [] }
 {}

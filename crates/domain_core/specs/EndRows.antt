@@ -23,13 +23,15 @@ waiting_send = SendWaits 0 (pos 5)
 -- statements without parts that are no such send
 abbrev pub no_waiting_send : List Stmt
 no_waiting_send =
-    Nothing ∷ Pause ∷ Emit 0 None ∷ Assign 0 (int 5) ∷ Exit 0 ∷ Send 0 (int 5) ∷ Receive 0 ∷ SendWaits 1 (pos 5) ∷ SendWaits 0 (pos 6) ∷ Sent 0
+    Nothing ∷ Pause ∷ Emit 0 None ∷ Assign 0 (int 5) ∷ Exit 0 ∷ Send 0 (int 5) ∷ Receive 0 ∷
+    SendWaits 1 (pos 5) ∷ SendWaits 0 (pos 6) ∷ Sent 0
     ∷ ReceiveWaits 0 ∷ Received 0 ∷ []
 
 -- statements without parts that are no receive on the channel 0 that waits
 abbrev pub no_waiting_receive : List Stmt
 no_waiting_receive =
-    Nothing ∷ Pause ∷ Emit 0 None ∷ Assign 0 (int 5) ∷ Exit 0 ∷ Send 0 (int 5) ∷ Receive 0 ∷ SendWaits 0 (pos 5) ∷ Sent 0 ∷ ReceiveWaits 1
+    Nothing ∷ Pause ∷ Emit 0 None ∷ Assign 0 (int 5) ∷ Exit 0 ∷ Send 0 (int 5) ∷ Receive 0 ∷
+    SendWaits 0 (pos 5) ∷ Sent 0 ∷ ReceiveWaits 1
     ∷ Received 0 ∷ []
 
 -- { pause; || p }
@@ -42,12 +44,24 @@ in_local p = Local 2 (pos 0) p
 
 -- the two domains after a tick of each, which has left them with these statements
 abbrev pub left_with : Stmt → Stmt → SystemState
-left_with p q = record { domain = λ d. record (start_of rendezvous d) { statement = get_or (p ∷ q ∷ []) d Nothing; ticks = 1 }; joins = λ c. [] }
+left_with p q =
+    record {
+      domain = λ d. record (start_of rendezvous d) {
+        statement = get_or (p ∷ q ∷
+            []) d Nothing;
+        ticks = 1;
+      };
+      joins = λ c. [];
+    }
 
 -- They may join then, with the value 5, and these statements are left.
 pub record JoinLeaves (p q sent received : Stmt) : Type 0 where
   pub new : SystemState
-  pub step : Step rendezvous (left_with p q) (MakesJoin 0 (record { value = pos 5; sender_ticks = 1; receiver_ticks = 1 })) new
+  pub step : Step rendezvous (left_with p q) (MakesJoin 0 (record {
+    value = pos 5;
+    sender_ticks = 1;
+    receiver_ticks = 1;
+  })) new
   pub sender : (new.domain 0).statement ≡ sent
   pub receiver : (new.domain 1).statement ≡ received
 
@@ -57,7 +71,8 @@ NoJoin p q = (sent received : Stmt) → JoinLeaves p q sent received → ⊥
 
 -- a channel of kind `int`
 abbrev pub channel_between : ℕ → ℕ → ChannelInfo
-channel_between sender receiver = record { name = codes "C"; kind = kind.Int; sender = sender; receiver = receiver }
+channel_between sender receiver =
+    record { name = codes "C"; kind = kind.Int; sender = sender; receiver = receiver }
 
 -- a local signal with a value and one without, and three channels, of which domain 0 receives on 1 and sends on 2
 abbrev pub end_tables : Tables
@@ -89,4 +104,5 @@ sends_later = Seq Pause (Send 2 (int 7))
 -- statements without parts that are no ends, and ends that wait or have completed, which stand in no program
 abbrev pub without_ends : List Stmt
 without_ends =
-    Nothing ∷ Pause ∷ Emit 0 None ∷ Assign 0 (int 5) ∷ Exit 0 ∷ SendWaits 2 (pos 5) ∷ Sent 2 ∷ ReceiveWaits 1 ∷ Received 1 ∷ []
+    Nothing ∷ Pause ∷ Emit 0 None ∷ Assign 0 (int 5) ∷ Exit 0 ∷ SendWaits 2 (pos 5) ∷ Sent 2 ∷
+    ReceiveWaits 1 ∷ Received 1 ∷ []

@@ -20,8 +20,20 @@ use Rattle.domain_core.specs.definitions.rounds.Interleavings.{Action, MadeTick,
 abbrev pub two_domains : Tables
 two_domains = record {
   signals =
-      record { name = codes "D"; domain = 0; sort = sort.Output; kind = None; combine = combine.Max } ∷
-      record { name = codes "B"; domain = 1; sort = sort.Output; kind = Some kind.Int; combine = combine.Max } ∷ [];
+      record {
+        name = codes "D";
+        domain = 0;
+        sort = sort.Output;
+        kind = None;
+        combine = combine.Max;
+      } ∷
+      record {
+        name = codes "B";
+        domain = 1;
+        sort = sort.Output;
+        kind = Some kind.Int;
+        combine = combine.Max;
+      } ∷ [];
   channels = record { name = codes "C"; kind = kind.Int; sender = 0; receiver = 1 } ∷ [];
   variables = [];
 }
@@ -30,7 +42,9 @@ two_domains = record {
 abbrev pub rendezvous : Setup
 rendezvous = record {
   tables = two_domains;
-  statements = Seq (Send 0 (Literal kind.Int (pos 5))) (Emit 0 None) ∷ Seq (Receive 0) (Emit 1 (Some (ChannelValue kind.Int 0))) ∷ [];
+  statements =
+      Seq (Send 0 (Literal kind.Int (pos 5))) (Emit 0 None) ∷
+      Seq (Receive 0) (Emit 1 (Some (ChannelValue kind.Int 0))) ∷ [];
   inputs = λ s n. None;
 }
 
@@ -39,8 +53,16 @@ rendezvous = record {
 abbrev pub rendezvous_with : ℕ → ℤ → Mark → RunState
 rendezvous_with stamp value mark = record {
   logs =
-      record { entries = record { stamp = 1; statuses = None ∷ [] } ∷ record { stamp = stamp; statuses = Some (pos 0) ∷ [] } ∷ []; mark = mark } ∷
-      record { entries = record { stamp = 1; statuses = None ∷ [] } ∷ record { stamp = stamp; statuses = Some value ∷ [] } ∷ []; mark = Ended } ∷ [];
+      record {
+        entries = record { stamp = 1; statuses = None ∷ [] } ∷
+            record { stamp = stamp; statuses = Some (pos 0) ∷ [] } ∷ [];
+        mark = mark;
+      } ∷
+      record {
+        entries = record { stamp = 1; statuses = None ∷ [] } ∷
+            record { stamp = stamp; statuses = Some value ∷ [] } ∷ [];
+        mark = Ended;
+      } ∷ [];
   histories = (record { value = value; sender_ticks = 1; receiver_ticks = 1; stamp = 2 } ∷ []) ∷ [];
 }
 
@@ -69,8 +91,15 @@ two_rounds = 0 ∷ 1 ∷ 0 ∷ 1 ∷ []
 abbrev pub one_interleaving : List Action
 one_interleaving =
     MadeTick 0 ∷ MadeMove 0 0 (record { what = Offer Sender (pos 5) 1; reply = None }) ∷
-    MadeTick 1 ∷ MadeMove 1 0 (record { what = Offer Receiver (pos 0) 1; reply = Some (record { value = pos 5; mine = 1; theirs = 1 }) }) ∷
-    MadeMove 0 0 (record { what = Recall Sender; reply = Some (record { value = pos 5; mine = 1; theirs = 1 }) }) ∷
+    MadeTick 1 ∷
+    MadeMove 1 0 (record {
+      what = Offer Receiver (pos 0) 1;
+      reply = Some (record { value = pos 5; mine = 1; theirs = 1 });
+    }) ∷
+    MadeMove 0 0 (record {
+      what = Recall Sender;
+      reply = Some (record { value = pos 5; mine = 1; theirs = 1 });
+    }) ∷
     MadeTick 0 ∷ MadeTick 1 ∷ []
 
 -- The ticks and moves are of rounds that fit the run. None is cut, and nothing stands at the end.
@@ -85,10 +114,34 @@ pub record IsByRounds (setup : Setup) (r : RunState) (actions : List Action) : T
 abbrev pub abort_tables : Tables
 abort_tables = record {
   signals =
-      record { name = codes "A"; domain = 0; sort = sort.Input; kind = None; combine = combine.Max } ∷
-      record { name = codes "X"; domain = 0; sort = sort.Output; kind = None; combine = combine.Max } ∷
-      record { name = codes "Y"; domain = 0; sort = sort.Output; kind = None; combine = combine.Max } ∷
-      record { name = codes "B"; domain = 1; sort = sort.Output; kind = Some kind.Int; combine = combine.Max } ∷ [];
+      record {
+        name = codes "A";
+        domain = 0;
+        sort = sort.Input;
+        kind = None;
+        combine = combine.Max;
+      } ∷
+      record {
+        name = codes "X";
+        domain = 0;
+        sort = sort.Output;
+        kind = None;
+        combine = combine.Max;
+      } ∷
+      record {
+        name = codes "Y";
+        domain = 0;
+        sort = sort.Output;
+        kind = None;
+        combine = combine.Max;
+      } ∷
+      record {
+        name = codes "B";
+        domain = 1;
+        sort = sort.Output;
+        kind = Some kind.Int;
+        combine = combine.Max;
+      } ∷ [];
   channels = record { name = codes "C"; kind = kind.Int; sender = 0; receiver = 1 } ∷ [];
   variables = [];
 }
@@ -98,7 +151,8 @@ abbrev pub aborted_send : Setup
 aborted_send = record {
   tables = abort_tables;
   statements =
-      Seq (Abort false false (IsPresent 0) (Seq (Send 0 (Literal kind.Int (pos 1))) (Emit 1 None))) (Emit 2 None) ∷
+      Seq (Abort false false (IsPresent 0) (Seq (Send 0 (Literal kind.Int (pos 1))) (Emit 1 None)))
+      (Emit 2 None) ∷
       Seq (Receive 0) (Emit 3 (Some (ChannelValue kind.Int 0))) ∷ [];
   inputs = λ s n. cond ((s == 0) && (n == 2)) (Some (pos 0)) None;
 }
@@ -108,7 +162,12 @@ aborted_send = record {
 abbrev pub withdrawn_run : List JoinRow → RunState
 withdrawn_run joins = record {
   logs =
-      record { entries = record { stamp = 1; statuses = None ∷ None ∷ None ∷ [] } ∷ record { stamp = 2; statuses = Some (pos 0) ∷ None ∷ Some (pos 0) ∷ [] } ∷ []; mark = Ended } ∷
+      record {
+        entries = record { stamp = 1; statuses = None ∷ None ∷ None ∷ [] } ∷
+            record { stamp = 2; statuses = Some (pos 0) ∷ None ∷ Some (pos 0) ∷ [] } ∷
+            [];
+        mark = Ended;
+      } ∷
       record { entries = record { stamp = 1; statuses = None ∷ [] } ∷ []; mark = Going } ∷ [];
   histories = joins ∷ [];
 }
@@ -121,8 +180,17 @@ receiver_last = 0 ∷ 0 ∷ 1 ∷ []
 abbrev pub joined_run : List JoinRow → RunState
 joined_run joins = record {
   logs =
-      record { entries = record { stamp = 1; statuses = None ∷ None ∷ None ∷ [] } ∷ record { stamp = 3; statuses = Some (pos 0) ∷ None ∷ Some (pos 0) ∷ [] } ∷ []; mark = Ended } ∷
-      record { entries = record { stamp = 1; statuses = None ∷ [] } ∷ record { stamp = 3; statuses = Some (pos 1) ∷ [] } ∷ []; mark = Ended } ∷ [];
+      record {
+        entries = record { stamp = 1; statuses = None ∷ None ∷ None ∷ [] } ∷
+            record { stamp = 3; statuses = Some (pos 0) ∷ None ∷ Some (pos 0) ∷ [] } ∷
+            [];
+        mark = Ended;
+      } ∷
+      record {
+        entries = record { stamp = 1; statuses = None ∷ [] } ∷
+            record { stamp = 3; statuses = Some (pos 1) ∷ [] } ∷ [];
+        mark = Ended;
+      } ∷ [];
   histories = joins ∷ [];
 }
 
@@ -134,9 +202,27 @@ early_join = record { value = pos 1; sender_ticks = 1; receiver_ticks = 1; stamp
 abbrev pub suspend_tables : Tables
 suspend_tables = record {
   signals =
-      record { name = codes "S"; domain = 1; sort = sort.Input; kind = None; combine = combine.Max } ∷
-      record { name = codes "D"; domain = 0; sort = sort.Output; kind = None; combine = combine.Max } ∷
-      record { name = codes "B"; domain = 1; sort = sort.Output; kind = Some kind.Int; combine = combine.Max } ∷ [];
+      record {
+        name = codes "S";
+        domain = 1;
+        sort = sort.Input;
+        kind = None;
+        combine = combine.Max;
+      } ∷
+      record {
+        name = codes "D";
+        domain = 0;
+        sort = sort.Output;
+        kind = None;
+        combine = combine.Max;
+      } ∷
+      record {
+        name = codes "B";
+        domain = 1;
+        sort = sort.Output;
+        kind = Some kind.Int;
+        combine = combine.Max;
+      } ∷ [];
   channels = record { name = codes "C"; kind = kind.Int; sender = 0; receiver = 1 } ∷ [];
   variables = [];
 }
@@ -156,11 +242,17 @@ suspended_receive = record {
 abbrev pub suspended_run : List JoinRow → RunState
 suspended_run joins = record {
   logs =
-      record { entries = record { stamp = 1; statuses = None ∷ [] } ∷ record { stamp = 4; statuses = Some (pos 0) ∷ [] } ∷ []; mark = Ended } ∷
+      record {
+        entries = record { stamp = 1; statuses = None ∷ [] } ∷
+            record { stamp = 4; statuses = Some (pos 0) ∷ [] } ∷ [];
+        mark = Ended;
+      } ∷
       record {
         entries =
-            record { stamp = 1; statuses = None ∷ None ∷ [] } ∷ record { stamp = 2; statuses = Some (pos 0) ∷ None ∷ [] } ∷
-            record { stamp = 4; statuses = Some (pos 0) ∷ None ∷ [] } ∷ record { stamp = 5; statuses = None ∷ Some (pos 7) ∷ [] } ∷ [];
+            record { stamp = 1; statuses = None ∷ None ∷ [] } ∷
+            record { stamp = 2; statuses = Some (pos 0) ∷ None ∷ [] } ∷
+            record { stamp = 4; statuses = Some (pos 0) ∷ None ∷ [] } ∷
+            record { stamp = 5; statuses = None ∷ Some (pos 7) ∷ [] } ∷ [];
         mark = Ended;
       } ∷ [];
   histories = joins ∷ [];

@@ -118,7 +118,8 @@ pub fn join_stays_at_abort()
 pub fn join_completes_suspended_receive()
     ensures scheduled { (end : SystemState) ×
         IsScheduledRun suspended_receive (suspended_run (suspended_join ∷ [])) receiver_first end }
-    ensures whole { IsWholeRun suspended_receive (suspended_run (suspended_join ∷ [])) receiver_first }
+    ensures whole { IsWholeRun suspended_receive (suspended_run (suspended_join ∷
+        [])) receiver_first }
     ensures refused { (end : SystemState) →
         IsLegalRun suspended_receive (suspended_run (too_early ∷ [])) end → ⊥ }
 {}
@@ -142,10 +143,14 @@ pub fn ends_wait_in_each_form()
 pub fn joins_complete_ends_in_parts()
     ensures second_branch { JoinLeaves (in_second_branch waiting_send) (in_second_branch (ReceiveWaits 0))
         (in_second_branch (Sent 0)) (in_second_branch (Received 0)) }
-    ensures trap { JoinLeaves (Trap waiting_send) (Trap (ReceiveWaits 0)) (Trap (Sent 0)) (Trap (Received 0)) }
-    ensures local { JoinLeaves (in_local waiting_send) (in_local (ReceiveWaits 0)) (in_local (Sent 0)) (in_local (Received 0)) }
-    ensures no_sender_in_branch { NoJoin (in_second_branch (Send 0 (int 5))) (in_second_branch (ReceiveWaits 0)) }
-    ensures no_receiver_in_branch { NoJoin (in_second_branch waiting_send) (in_second_branch (Receive 0)) }
+    ensures trap { JoinLeaves (Trap waiting_send) (Trap (ReceiveWaits 0)) (Trap (Sent 0))
+        (Trap (Received 0)) }
+    ensures local { JoinLeaves (in_local waiting_send) (in_local (ReceiveWaits 0))
+        (in_local (Sent 0)) (in_local (Received 0)) }
+    ensures no_sender_in_branch { NoJoin (in_second_branch (Send 0 (int 5)))
+        (in_second_branch (ReceiveWaits 0)) }
+    ensures no_receiver_in_branch { NoJoin (in_second_branch waiting_send)
+        (in_second_branch (Receive 0)) }
     ensures no_sender_in_trap { NoJoin (Trap (Sent 0)) (Trap (ReceiveWaits 0)) }
     ensures no_receiver_in_trap { NoJoin (Trap waiting_send) (Trap (Received 0)) }
     ensures no_sender_in_local { NoJoin (in_local (SendWaits 0 (pos 6))) (in_local (ReceiveWaits 0)) }
@@ -155,23 +160,33 @@ pub fn joins_complete_ends_in_parts()
 /// The places of ends in each form that has parts: the second part's registers come after the first one's, and
 /// those of a local signal's block after its value.
 pub fn ends_have_places_in_each_form()
-    ensures choice { places_in (If (truth true) sends_later receives) ≡ sends_at 11 12 ∷ receives_at 14 15 ∷ [] }
-    ensures choice_turned { places_in (If (truth true) receives sends_later) ≡ receives_at 10 11 ∷ sends_at 13 14 ∷ [] }
-    ensures test { places_in (Present (IsPresent 0) sends_later receives) ≡ sends_at 11 12 ∷ receives_at 14 15 ∷ [] }
+    ensures choice { places_in (If (truth true) sends_later receives) ≡
+        sends_at 11 12 ∷ receives_at 14 15 ∷ [] }
+    ensures choice_turned { places_in (If (truth true) receives sends_later) ≡
+        receives_at 10 11 ∷ sends_at 13 14 ∷ [] }
+    ensures test { places_in (Present (IsPresent 0) sends_later receives) ≡
+        sends_at 11 12 ∷ receives_at 14 15 ∷ [] }
     ensures test_turned { places_in (Present (IsPresent 0) receives sends_later)
         ≡ receives_at 10 11 ∷ sends_at 13 14 ∷ [] }
-    ensures parallel { places_in (Par sends_later receives) ≡ sends_at 11 12 ∷ receives_at 14 15 ∷ [] }
-    ensures parallel_turned { places_in (Par receives sends_later) ≡ receives_at 10 11 ∷ sends_at 13 14 ∷ [] }
-    ensures sequence { places_in (Seq sends_later receives) ≡ sends_at 11 12 ∷ receives_at 14 15 ∷ [] }
-    ensures sequence_turned { places_in (Seq receives sends_later) ≡ receives_at 10 11 ∷ sends_at 13 14 ∷ [] }
+    ensures parallel { places_in (Par sends_later receives) ≡
+        sends_at 11 12 ∷ receives_at 14 15 ∷ [] }
+    ensures parallel_turned { places_in (Par receives sends_later) ≡
+        receives_at 10 11 ∷ sends_at 13 14 ∷ [] }
+    ensures sequence { places_in (Seq sends_later receives) ≡
+        sends_at 11 12 ∷ receives_at 14 15 ∷ [] }
+    ensures sequence_turned { places_in (Seq receives sends_later) ≡
+        receives_at 10 11 ∷ sends_at 13 14 ∷ [] }
     ensures loop_ { places_in (Loop sends_later) ≡ sends_at 11 12 ∷ [] }
     ensures trap { places_in (Trap sends_later) ≡ sends_at 11 12 ∷ [] }
     ensures strong { places_in (Abort false false (IsPresent 0) sends_later) ≡ sends_at 11 12 ∷ [] }
-    ensures strong_immediate { places_in (Abort false true (IsPresent 0) sends_later) ≡ sends_at 11 12 ∷ [] }
+    ensures strong_immediate { places_in (Abort false true (IsPresent 0) sends_later) ≡
+        sends_at 11 12 ∷ [] }
     ensures weak { places_in (Abort true false (IsPresent 0) sends_later) ≡ sends_at 11 12 ∷ [] }
-    ensures weak_immediate { places_in (Abort true true (IsPresent 0) sends_later) ≡ sends_at 11 12 ∷ [] }
+    ensures weak_immediate { places_in (Abort true true (IsPresent 0) sends_later) ≡
+        sends_at 11 12 ∷ [] }
     ensures suspend { places_in (Suspend false (IsPresent 0) sends_later) ≡ sends_at 11 12 ∷ [] }
-    ensures armed_suspend { places_in (Suspend true (IsPresent 0) sends_later) ≡ sends_at 11 12 ∷ [] }
+    ensures armed_suspend { places_in (Suspend true (IsPresent 0) sends_later) ≡
+        sends_at 11 12 ∷ [] }
     ensures valued_local { places_in (Local 0 (pos 0) sends_later) ≡ sends_at 12 13 ∷ [] }
     ensures pure_local { places_in (Local 1 (pos 0) sends_later) ≡ sends_at 11 12 ∷ [] }
     ensures none { flat_map (λ p. places_in p) without_ends ≡ [] }

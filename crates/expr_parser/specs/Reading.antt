@@ -30,9 +30,10 @@ pub record NoFirstKind (tokens : List Token) : Type 0 where
   pub none : (t : Token) (rest : List Token) → tokens ≡ t ∷ rest → has (kind_of t.class) ≡ false
 
 -- this is the first of them
-pub record IsFirst (c : Class) (tokens : List Token) (token : Token) (rest : List Token) : Type 0 where
-  pub is : tokens ≡ token ∷ rest
-  pub class_is : same c token.class ≡ true
+pub record IsFirst (c : Class) (tokens : List Token) (token : Token) (rest : List Token) : Type 0
+  where
+    pub is : tokens ≡ token ∷ rest
+    pub class_is : same c token.class ≡ true
 
 pub record IsFirstEdge (tokens : List Token) (token : Token) (rest : List Token) : Type 0 where
   pub is : tokens ≡ token ∷ rest
@@ -65,11 +66,13 @@ Fails (stop_at.TooDeep bad) w = w ≡ TooDeep bad.now
 Fails stop_at.NoMemory w = Unit {0}
 
 -- the reading of these symbols stops there, whatever is to come after them
-pub record FailsAt (front : List Symbol) (tokens : List Token) (d n : ℕ) (stop : Stop) : Type 0 where
-  pub fails : (k : List Symbol) → Fails stop (walk (front ++ k) d n tokens)
+pub record FailsAt (front : List Symbol) (tokens : List Token) (d n : ℕ) (stop : Stop) : Type 0
+  where
+    pub fails : (k : List Symbol) → Fails stop (walk (front ++ k) d n tokens)
 
 -- the tokens are those of an operand and those after it, with so many operators then
-pub record ReadsOperand (source : List ℕ) (tokens : List Token) (d n : ℕ) (tree : raw.Raw Name) (m : ℕ) (rest : List Token) : Type 0 where
+pub record ReadsOperand (source : List ℕ) (tokens : List Token) (d n : ℕ) (tree : raw.Raw Name)
+    (m : ℕ) (rest : List Token) : Type 0 where
   pub expr : Expr
   pub stands : tree ≡ raw_of source expr
   pub is_expr : IsExpr expr
@@ -79,7 +82,8 @@ pub record ReadsOperand (source : List ℕ) (tokens : List Token) (d n : ℕ) (t
   pub shorter : length rest < length tokens
 
 -- the same of an expression of at least a level, which an operator of at most its level may follow
-pub record ReadsFront (source : List ℕ) (tokens : List Token) (d n least : ℕ) (tree : raw.Raw Name) (m : ℕ) (rest : List Token) : Type 0 where
+pub record ReadsFront (source : List ℕ) (tokens : List Token) (d n least : ℕ) (tree : raw.Raw Name)
+    (m : ℕ) (rest : List Token) : Type 0 where
   pub expr : Expr
   pub stands : tree ≡ raw_of source expr
   pub is_expr : IsExpr expr
@@ -90,12 +94,14 @@ pub record ReadsFront (source : List ℕ) (tokens : List Token) (d n least : ℕ
   pub next : infix_level rest ≤ level expr
 
 -- the same of an expression, which no operator of at least the level follows
-pub record ReadsFrom (source : List ℕ) (tokens : List Token) (d n least : ℕ) (tree : raw.Raw Name) (m : ℕ) (rest : List Token) : Type 0 where
+pub record ReadsFrom (source : List ℕ) (tokens : List Token) (d n least : ℕ) (tree : raw.Raw Name)
+    (m : ℕ) (rest : List Token) : Type 0 where
   pub front : ReadsFront source tokens d n least tree m rest
   pub ends : infix_level rest < least
 
 -- one operator and operand more
-pub record Grows (source : List ℕ) (tokens : List Token) (d n : ℕ) (old new : raw.Raw Name) (m : ℕ) (rest : List Token) : Type 0 where
+pub record Grows (source : List ℕ) (tokens : List Token) (d n : ℕ) (old new : raw.Raw Name) (m : ℕ)
+    (rest : List Token) : Type 0 where
   pub op : Op2
   pub token : Token
   pub right : Expr
@@ -109,7 +115,8 @@ pub record Grows (source : List ℕ) (tokens : List Token) (d n : ℕ) (old new 
   pub next : infix_level rest ≤ level_of op
 
 -- the same of tests
-pub record ReadsTestOperand (source : List ℕ) (tokens : List Token) (d n : ℕ) (tree : signal_test.Test Name) (m : ℕ) (rest : List Token) : Type 0 where
+pub record ReadsTestOperand (source : List ℕ) (tokens : List Token) (d n : ℕ)
+    (tree : signal_test.Test Name) (m : ℕ) (rest : List Token) : Type 0 where
   pub test : Test
   pub stands : tree ≡ test_of source test
   pub is_test : IsTest test
@@ -118,21 +125,25 @@ pub record ReadsTestOperand (source : List ℕ) (tokens : List Token) (d n : ℕ
   pub walks : (k : List Symbol) → walk (TestOperand ∷ k) d n tokens ≡ walk k d m rest
   pub shorter : length rest < length tokens
 
-pub record ReadsTestFront (source : List ℕ) (tokens : List Token) (d n least : ℕ) (tree : signal_test.Test Name) (m : ℕ) (rest : List Token) : Type 0 where
+pub record ReadsTestFront (source : List ℕ) (tokens : List Token) (d n least : ℕ)
+    (tree : signal_test.Test Name) (m : ℕ) (rest : List Token) : Type 0 where
   pub test : Test
   pub stands : tree ≡ test_of source test
   pub is_test : IsTest test
   pub at_least : least ≤ test_level test
   pub printed : tokens ≡ print_test test rest
-  pub walks : (k : List Symbol) → walk (TestOperand ∷ MoreTest ∷ k) d n tokens ≡ walk (MoreTest ∷ k) d m rest
+  pub walks : (k : List Symbol) →
+      walk (TestOperand ∷ MoreTest ∷ k) d n tokens ≡ walk (MoreTest ∷ k) d m rest
   pub shorter : length rest < length tokens
   pub next : join_level_of rest ≤ test_level test
 
-pub record ReadsTestFrom (source : List ℕ) (tokens : List Token) (d n least : ℕ) (tree : signal_test.Test Name) (m : ℕ) (rest : List Token) : Type 0 where
+pub record ReadsTestFrom (source : List ℕ) (tokens : List Token) (d n least : ℕ)
+    (tree : signal_test.Test Name) (m : ℕ) (rest : List Token) : Type 0 where
   pub front : ReadsTestFront source tokens d n least tree m rest
   pub ends : join_level_of rest < least
 
-pub record TestGrows (source : List ℕ) (tokens : List Token) (d n : ℕ) (old new : signal_test.Test Name) (m : ℕ) (rest : List Token) : Type 0 where
+pub record TestGrows (source : List ℕ) (tokens : List Token) (d n : ℕ)
+    (old new : signal_test.Test Name) (m : ℕ) (rest : List Token) : Type 0 where
   pub join : Join
   pub token : Token
   pub right : Test
@@ -146,24 +157,30 @@ pub record TestGrows (source : List ℕ) (tokens : List Token) (d n : ℕ) (old 
   pub next : join_level_of rest ≤ join_level join
 
 -- an answer of the longest run, whichever it is
-pub record ExpressionBefore (source : List ℕ) (tokens : List Token) (depth : ℕ) (tree : raw.Raw Name) (rest : List Token) : Type 0 where
+pub record ExpressionBefore (source : List ℕ) (tokens : List Token) (depth : ℕ)
+    (tree : raw.Raw Name) (rest : List Token) : Type 0 where
   pub run : List Token
   pub whole : IsExpression source tokens depth tree run rest
 
-pub record TestBefore (source : List ℕ) (tokens : List Token) (depth : ℕ) (tree : signal_test.Test Name) (rest : List Token) : Type 0 where
+pub record TestBefore (source : List ℕ) (tokens : List Token) (depth : ℕ)
+    (tree : signal_test.Test Name) (rest : List Token) : Type 0 where
   pub run : List Token
   pub whole : IsSignalTest source tokens depth tree run rest
 
-pub record RefusedBefore (Begin Are : List Token → Type 0) (casts : Bool) (tokens : List Token) (depth : ℕ) (rest : List Token) : Type 0 where
+pub record RefusedBefore (Begin Are : List Token →
+    Type 0) (casts : Bool) (tokens : List Token) (depth : ℕ) (rest : List Token) : Type 0 where
   pub run : List Token
   pub refused : IsRefused Begin Are casts tokens depth run rest
 
-pub record TooDeepBefore (Begin : List Token → Type 0) (casts : Bool) (tokens : List Token) (depth : ℕ) (rest : List Token) : Type 0 where
+pub record TooDeepBefore (Begin : List Token →
+    Type 0) (casts : Bool) (tokens : List Token) (depth : ℕ) (rest : List Token) : Type 0 where
   pub run : List Token
   pub refused : IsTooDeep Begin casts tokens depth run rest
 
 -- where the longest run stops
 abbrev pub Stops : (Begin Are : List Token → Type 0) → Bool → List Token → ℕ → Stop → Type 0
-Stops Begin Are casts tokens depth (stop_at.Syntax bad) = RefusedBefore Begin Are casts tokens depth bad.now
-Stops Begin Are casts tokens depth (stop_at.TooDeep bad) = TooDeepBefore Begin casts tokens depth bad.now
+Stops Begin Are casts tokens depth (stop_at.Syntax bad) =
+    RefusedBefore Begin Are casts tokens depth bad.now
+Stops Begin Are casts tokens depth (stop_at.TooDeep bad) =
+    TooDeepBefore Begin casts tokens depth bad.now
 Stops Begin Are casts tokens depth stop_at.NoMemory = Unit {0}

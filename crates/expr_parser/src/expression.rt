@@ -31,7 +31,9 @@ fn atom<'a>(
 ) -> Result<Read<'a, Counted<Raw<Name>>>, Stop<'a>>
     requires is { tokens.now ≡ first.now ∷ rest.now }
     requires role { lead_of first.now.class ≡ lead.Atom }
-    ensures { MatchResult result (λ r. ReadsOperand source.now tokens.now depth operators r.value.tree r.value.operators r.rest.now) (λ s. FailsAt (Operand ∷ []) tokens.now depth operators s) }
+    ensures { MatchResult result (λ r. ReadsOperand source.now tokens.now depth operators
+        r.value.tree r.value.operators r.rest.now) (λ s. FailsAt (Operand ∷
+        []) tokens.now depth operators s) }
 {
     match atom_of(alloc, source, first) {
         Ok(tree) => Ok(Read {
@@ -54,7 +56,9 @@ fn status<'a>(
 ) -> Result<Read<'a, Counted<Raw<Name>>>, Stop<'a>>
     requires is { tokens.now ≡ first.now ∷ rest.now }
     requires role { lead_of first.now.class ≡ lead.Hash }
-    ensures { MatchResult result (λ r. ReadsOperand source.now tokens.now depth operators r.value.tree r.value.operators r.rest.now) (λ s. FailsAt (Operand ∷ []) tokens.now depth operators s) }
+    ensures { MatchResult result (λ r. ReadsOperand source.now tokens.now depth operators
+        r.value.tree r.value.operators r.rest.now) (λ s. FailsAt (Operand ∷
+        []) tokens.now depth operators s) }
 {
     let Some(named) = after(rest, Class::Name) else {
         return Err(Stop::Syntax(rest));
@@ -89,7 +93,9 @@ fn prefix<'a>(
 ) -> Result<Read<'a, Counted<Raw<Name>>>, Stop<'a>>
     requires is { tokens.now ≡ first.now ∷ rest.now }
     requires role { lead_of first.now.class ≡ lead.Prefix op }
-    ensures { MatchResult result (λ r. ReadsOperand source.now tokens.now depth operators r.value.tree r.value.operators r.rest.now) (λ s. FailsAt (Operand ∷ []) tokens.now depth operators s) }
+    ensures { MatchResult result (λ r. ReadsOperand source.now tokens.now depth operators
+        r.value.tree r.value.operators r.rest.now) (λ s. FailsAt (Operand ∷
+        []) tokens.now depth operators s) }
 {
     if operators >= MOST_OPERATORS {
         return Err(Stop::TooDeep(tokens));
@@ -122,7 +128,9 @@ fn minus<'a>(
 ) -> Result<Read<'a, Counted<Raw<Name>>>, Stop<'a>>
     requires is { tokens.now ≡ first.now ∷ rest.now }
     requires role { lead_of first.now.class ≡ lead.Minus }
-    ensures { MatchResult result (λ r. ReadsOperand source.now tokens.now depth operators r.value.tree r.value.operators r.rest.now) (λ s. FailsAt (Operand ∷ []) tokens.now depth operators s) }
+    ensures { MatchResult result (λ r. ReadsOperand source.now tokens.now depth operators
+        r.value.tree r.value.operators r.rest.now) (λ s. FailsAt (Operand ∷
+        []) tokens.now depth operators s) }
 {
     if operators >= MOST_OPERATORS {
         return Err(Stop::TooDeep(tokens));
@@ -171,7 +179,9 @@ fn cast<'a>(
     requires role { lead_of first.now.class ≡ lead.Open }
     requires kind { IsFirstKind inside.now kind rest.now }
     requires within { depth < 64 }
-    ensures { MatchResult result (λ r. ReadsOperand source.now tokens.now depth operators r.value.tree r.value.operators r.rest.now) (λ s. FailsAt (Operand ∷ []) tokens.now depth operators s) }
+    ensures { MatchResult result (λ r. ReadsOperand source.now tokens.now depth operators
+        r.value.tree r.value.operators r.rest.now) (λ s. FailsAt (Operand ∷
+        []) tokens.now depth operators s) }
 {
     if operators >= MOST_OPERATORS {
         return Err(Stop::TooDeep(tokens));
@@ -209,7 +219,9 @@ fn group<'a>(
     requires role { lead_of first.now.class ≡ lead.Open }
     requires no_kind { NoFirstKind rest.now }
     requires within { depth < 64 }
-    ensures { MatchResult result (λ r. ReadsOperand source.now tokens.now depth operators r.value.tree r.value.operators r.rest.now) (λ s. FailsAt (Operand ∷ []) tokens.now depth operators s) }
+    ensures { MatchResult result (λ r. ReadsOperand source.now tokens.now depth operators
+        r.value.tree r.value.operators r.rest.now) (λ s. FailsAt (Operand ∷
+        []) tokens.now depth operators s) }
 {
     match expression(alloc, source, rest, 1, depth + 1, operators) {
         Ok(read) => match after(read.rest, Class::Mark(Mark::CloseParen)) {
@@ -242,7 +254,9 @@ fn opened<'a>(
 ) -> Result<Read<'a, Counted<Raw<Name>>>, Stop<'a>>
     requires is { tokens.now ≡ first.now ∷ rest.now }
     requires role { lead_of first.now.class ≡ lead.Open }
-    ensures { MatchResult result (λ r. ReadsOperand source.now tokens.now depth operators r.value.tree r.value.operators r.rest.now) (λ s. FailsAt (Operand ∷ []) tokens.now depth operators s) }
+    ensures { MatchResult result (λ r. ReadsOperand source.now tokens.now depth operators
+        r.value.tree r.value.operators r.rest.now) (λ s. FailsAt (Operand ∷
+        []) tokens.now depth operators s) }
 {
     if depth >= MOST_OPEN {
         return Err(Stop::TooDeep(tokens));
@@ -272,7 +286,9 @@ fn operand<'a>(
     depth: u32,
     operators: u32,
 ) -> Result<Read<'a, Counted<Raw<Name>>>, Stop<'a>>
-    ensures { MatchResult result (λ r. ReadsOperand source.now tokens.now depth operators r.value.tree r.value.operators r.rest.now) (λ s. FailsAt (Operand ∷ []) tokens.now depth operators s) }
+    ensures { MatchResult result (λ r. ReadsOperand source.now tokens.now depth operators
+        r.value.tree r.value.operators r.rest.now) (λ s. FailsAt (Operand ∷
+        []) tokens.now depth operators s) }
 {
     let Some((first, rest)) = tokens.split_first() else {
         return Err(Stop::Syntax(tokens));
@@ -298,7 +314,8 @@ fn grow<'a>(
     operators: u32,
 ) -> Result<Read<'a, Counted<Raw<Name>>>, Stop<'a>>
     requires { 1 ≤ infix_level tokens.now }
-    ensures { MatchResult result (λ r. Grows source.now tokens.now depth operators tree r.value.tree r.value.operators r.rest.now) (λ s. FailsAt (More ∷ []) tokens.now depth operators s) }
+    ensures { MatchResult result (λ r. Grows source.now tokens.now depth operators tree r.value.tree
+        r.value.operators r.rest.now) (λ s. FailsAt (More ∷ []) tokens.now depth operators s) }
 {
     let Some((first, rest)) = tokens.split_first() else {
         unreachable!()
@@ -339,7 +356,9 @@ pub fn expression<'a>(
 ) -> Result<Read<'a, Counted<Raw<Name>>>, Stop<'a>>
     requires low { 1 ≤ least }
     requires high { least ≤ 11 }
-    ensures { MatchResult result (λ r. ReadsFrom source.now tokens.now depth operators least r.value.tree r.value.operators r.rest.now) (λ s. FailsAt (Operand ∷ More ∷ []) tokens.now depth operators s) }
+    ensures { MatchResult result (λ r. ReadsFrom source.now tokens.now depth operators least
+        r.value.tree r.value.operators r.rest.now) (λ s. FailsAt (Operand ∷ More ∷
+        []) tokens.now depth operators s) }
 {
     let mut read = match operand(alloc, source, tokens, depth, operators) {
         Ok(read) => read,

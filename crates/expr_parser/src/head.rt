@@ -8,7 +8,8 @@ use sj_lexer::{Class, Token};
 
 /// The token of this class and the tokens after it, where they begin with one.
 pub fn after(tokens: &[Token], wanted: Class) -> Option<Read<Token>>
-    ensures { MatchOption result (IsNotFirst wanted tokens.now) (λ f. IsFirst wanted tokens.now f.value f.rest.now) }
+    ensures { MatchOption result (IsNotFirst wanted tokens.now)
+        (λ f. IsFirst wanted tokens.now f.value f.rest.now) }
 {
     let (first, rest) = tokens.split_first()?;
     if same(wanted, first.class) {
@@ -23,7 +24,8 @@ pub fn after(tokens: &[Token], wanted: Class) -> Option<Read<Token>>
 
 /// The number that is one only behind a minus, where the tokens begin with one.
 pub fn edge_at(tokens: &[Token]) -> Option<Read<Token>>
-    ensures { MatchOption result (NoFirstEdge tokens.now) (λ f. IsFirstEdge tokens.now f.value f.rest.now) }
+    ensures { MatchOption result (NoFirstEdge tokens.now)
+        (λ f. IsFirstEdge tokens.now f.value f.rest.now) }
 {
     let (first, rest) = tokens.split_first()?;
     if is_edge(first.class) {
@@ -38,7 +40,8 @@ pub fn edge_at(tokens: &[Token]) -> Option<Read<Token>>
 
 /// The kind that the tokens begin with.
 pub fn kind_at(tokens: &[Token]) -> Option<Read<Kind>>
-    ensures { MatchOption result (NoFirstKind tokens.now) (λ f. IsFirstKind tokens.now f.value f.rest.now) }
+    ensures { MatchOption result (NoFirstKind tokens.now)
+        (λ f. IsFirstKind tokens.now f.value f.rest.now) }
 {
     let (first, rest) = tokens.split_first()?;
     match kind_of(first.class) {

@@ -47,7 +47,8 @@ fn longest_expression<'a>(
     tokens: &'a [Token],
     depth: u32,
 ) -> Result<Read<'a, Counted<Raw<Name>>>, Stop<'a>>
-    ensures { MatchResult result (λ r. ExpressionBefore source.now tokens.now depth r.value.tree r.rest.now) (λ s. Stops BeginExpression AreExpression true tokens.now depth s) }
+    ensures { MatchResult result (λ r. ExpressionBefore source.now tokens.now depth r.value.tree
+        r.rest.now) (λ s. Stops BeginExpression AreExpression true tokens.now depth s) }
 {
     match expression(alloc, source, tokens, 1, depth, 0) {
         Ok(read) => Ok(read),
@@ -61,7 +62,8 @@ fn longest_test<'a>(
     tokens: &'a [Token],
     depth: u32,
 ) -> Result<Read<'a, Counted<Test<Name>>>, Stop<'a>>
-    ensures { MatchResult result (λ r. TestBefore source.now tokens.now depth r.value.tree r.rest.now) (λ s. Stops BeginTest AreTest false tokens.now depth s) }
+    ensures { MatchResult result (λ r. TestBefore source.now tokens.now depth r.value.tree
+        r.rest.now) (λ s. Stops BeginTest AreTest false tokens.now depth s) }
 {
     match test_from(alloc, source, tokens, 1, depth, 0) {
         Ok(read) => Ok(read),
@@ -84,7 +86,8 @@ pub fn place_of(tokens: &[Token], source: &[u8]) -> u32
 fn place(tokens: &[Token], bad: &[Token], source: &[u8]) -> u32
     requires fits { length bad.now ≤ length tokens.now }
     requires small { length source.now ≤ 1048576 }
-    ensures { result ≡ place_of (drop (length tokens.now - length bad.now) tokens.now) (length source.now) }
+    ensures { result ≡
+        place_of (drop (length tokens.now - length bad.now) tokens.now) (length source.now) }
 {
     let (_, last) = tokens.split_at(tokens.len() - bad.len());
     place_of(last, source)
@@ -101,7 +104,9 @@ pub fn expr(
 ) -> Result<ExprRead, ParseError>
     requires from { from ≤ length tokens.now }
     requires small { length source.now ≤ 1048576 }
-    ensures { MatchResult result (λ r. ReadsExpression source.now tokens.now from depth r.tree r.next) (λ e. FailsFrom BeginExpression AreExpression true source.now tokens.now from depth e) }
+    ensures { MatchResult result (λ r. ReadsExpression source.now tokens.now from depth r.tree
+        r.next) (λ e. FailsFrom BeginExpression AreExpression true source.now tokens.now from
+        depth e) }
 {
     let (_, rest) = tokens.split_at(from);
     match longest_expression(alloc, source, rest, depth) {
@@ -126,7 +131,8 @@ pub fn test(
 ) -> Result<TestRead, ParseError>
     requires from { from ≤ length tokens.now }
     requires small { length source.now ≤ 1048576 }
-    ensures { MatchResult result (λ r. ReadsTest source.now tokens.now from depth r.tree r.next) (λ e. FailsFrom BeginTest AreTest false source.now tokens.now from depth e) }
+    ensures { MatchResult result (λ r. ReadsTest source.now tokens.now from depth r.tree r.next)
+        (λ e. FailsFrom BeginTest AreTest false source.now tokens.now from depth e) }
 {
     let (_, rest) = tokens.split_at(from);
     match longest_test(alloc, source, rest, depth) {

@@ -24,7 +24,9 @@ fn signal<'a>(
 ) -> Result<Read<'a, Counted<Test<Name>>>, Stop<'a>>
     requires is { tokens.now ≡ first.now ∷ rest.now }
     requires role { test_lead_of first.now.class ≡ test_lead.Signal }
-    ensures { MatchResult result (λ r. ReadsTestOperand source.now tokens.now depth operators r.value.tree r.value.operators r.rest.now) (λ s. FailsAt (TestOperand ∷ []) tokens.now depth operators s) }
+    ensures { MatchResult result (λ r. ReadsTestOperand source.now tokens.now depth operators
+        r.value.tree r.value.operators r.rest.now) (λ s. FailsAt (TestOperand ∷
+        []) tokens.now depth operators s) }
 {
     match name_of(alloc, source, first) {
         Ok(name) => Ok(Read {
@@ -54,7 +56,9 @@ fn not<'a>(
 ) -> Result<Read<'a, Counted<Test<Name>>>, Stop<'a>>
     requires is { tokens.now ≡ first.now ∷ rest.now }
     requires role { test_lead_of first.now.class ≡ test_lead.Not }
-    ensures { MatchResult result (λ r. ReadsTestOperand source.now tokens.now depth operators r.value.tree r.value.operators r.rest.now) (λ s. FailsAt (TestOperand ∷ []) tokens.now depth operators s) }
+    ensures { MatchResult result (λ r. ReadsTestOperand source.now tokens.now depth operators
+        r.value.tree r.value.operators r.rest.now) (λ s. FailsAt (TestOperand ∷
+        []) tokens.now depth operators s) }
 {
     if operators >= MOST_OPERATORS {
         return Err(Stop::TooDeep(tokens));
@@ -87,7 +91,9 @@ fn test_group<'a>(
 ) -> Result<Read<'a, Counted<Test<Name>>>, Stop<'a>>
     requires is { tokens.now ≡ first.now ∷ rest.now }
     requires role { test_lead_of first.now.class ≡ test_lead.Open }
-    ensures { MatchResult result (λ r. ReadsTestOperand source.now tokens.now depth operators r.value.tree r.value.operators r.rest.now) (λ s. FailsAt (TestOperand ∷ []) tokens.now depth operators s) }
+    ensures { MatchResult result (λ r. ReadsTestOperand source.now tokens.now depth operators
+        r.value.tree r.value.operators r.rest.now) (λ s. FailsAt (TestOperand ∷
+        []) tokens.now depth operators s) }
 {
     if depth >= MOST_OPEN {
         return Err(Stop::TooDeep(tokens));
@@ -119,7 +125,9 @@ fn test_operand<'a>(
     depth: u32,
     operators: u32,
 ) -> Result<Read<'a, Counted<Test<Name>>>, Stop<'a>>
-    ensures { MatchResult result (λ r. ReadsTestOperand source.now tokens.now depth operators r.value.tree r.value.operators r.rest.now) (λ s. FailsAt (TestOperand ∷ []) tokens.now depth operators s) }
+    ensures { MatchResult result (λ r. ReadsTestOperand source.now tokens.now depth operators
+        r.value.tree r.value.operators r.rest.now) (λ s. FailsAt (TestOperand ∷
+        []) tokens.now depth operators s) }
 {
     let Some((first, rest)) = tokens.split_first() else {
         return Err(Stop::Syntax(tokens));
@@ -143,7 +151,9 @@ fn grow_test<'a>(
     operators: u32,
 ) -> Result<Read<'a, Counted<Test<Name>>>, Stop<'a>>
     requires { 1 ≤ join_level_of tokens.now }
-    ensures { MatchResult result (λ r. TestGrows source.now tokens.now depth operators tree r.value.tree r.value.operators r.rest.now) (λ s. FailsAt (MoreTest ∷ []) tokens.now depth operators s) }
+    ensures { MatchResult result (λ r. TestGrows source.now tokens.now depth operators tree
+        r.value.tree r.value.operators r.rest.now) (λ s. FailsAt (MoreTest ∷
+        []) tokens.now depth operators s) }
 {
     let Some((first, rest)) = tokens.split_first() else {
         unreachable!()
@@ -191,7 +201,9 @@ pub fn test_from<'a>(
 ) -> Result<Read<'a, Counted<Test<Name>>>, Stop<'a>>
     requires low { 1 ≤ least }
     requires high { least ≤ 3 }
-    ensures { MatchResult result (λ r. ReadsTestFrom source.now tokens.now depth operators least r.value.tree r.value.operators r.rest.now) (λ s. FailsAt (TestOperand ∷ MoreTest ∷ []) tokens.now depth operators s) }
+    ensures { MatchResult result (λ r. ReadsTestFrom source.now tokens.now depth operators least
+        r.value.tree r.value.operators r.rest.now) (λ s. FailsAt (TestOperand ∷ MoreTest ∷
+        []) tokens.now depth operators s) }
 {
     let mut read = match test_operand(alloc, source, tokens, depth, operators) {
         Ok(read) => read,

@@ -16,27 +16,41 @@ use Rattle.gals_core.specs.definitions.OrderPlans.{view_at}
 
 -- the entries and the rows so far are those of the system
 pub record FitSoFar (system : System) (views : List DomainView) (b : ChannelsState) : Type 0 where
-  pub signals : (d : ℕ) → d < domain_count (order_setup system) → (view_at system views d).log.signals ≡ length (interface_of (tables_of system) d)
-  pub entries : (d : ℕ) → d < domain_count (order_setup system) → All (IsEntry (interface_signals (tables_of system) d)) (view_at system views d).log.entries
-  pub marks : (d : ℕ) → d < domain_count (order_setup system) → is_over (view_at system views d).log.mark ≡ true → 1 ≤ tick_count_of (view_at system views d)
-  pub rows : (c : ℕ) → c < channel_count (order_setup system) → All (IsRow (channel_at (tables_of system) c).kind) (history_in b c).rows
+  pub signals : (d : ℕ) → d < domain_count (order_setup system) →
+      (view_at system views d).log.signals ≡ length (interface_of (tables_of system) d)
+  pub entries : (d : ℕ) → d < domain_count (order_setup system) →
+      All (IsEntry (interface_signals (tables_of system) d)) (view_at system views d).log.entries
+  pub marks : (d : ℕ) → d < domain_count (order_setup system) →
+      is_over (view_at system views d).log.mark ≡ true → 1 ≤ tick_count_of (view_at system views d)
+  pub rows : (c : ℕ) → c < channel_count (order_setup system) →
+      All (IsRow (channel_at (tables_of system) c).kind) (history_in b c).rows
 
 -- The link of each channel, the number of ticks and the ends of each domain are those of the system. Each
 -- domain has memory for the turns that are left, and each history for more joins than they can make.
-pub record IsBetweenTurns (system : System) (turns left : List ℕ) (views : List DomainView) (b : ChannelsState) : Type 0 where
+pub record IsBetweenTurns (system : System) (turns left : List ℕ) (views : List DomainView)
+    (b : ChannelsState) : Type 0 where
   pub is_system : IsSystem (order_setup system)
   pub few : 2 * length turns < 2 ^ 62
   pub domains : length views ≡ domain_count (order_setup system)
   pub turns_within : (i : ℕ) → i < length left → get_or left i 0 < domain_count (order_setup system)
-  pub spare : (d : ℕ) → d < domain_count (order_setup system) → turns_of d left ≤ (view_at system views d).spare
-  pub limit : (d : ℕ) → d < domain_count (order_setup system) → tick_count_of (view_at system views d) + turns_of d left ≤ most_ticks
+  pub spare : (d : ℕ) → d < domain_count (order_setup system) →
+      turns_of d left ≤ (view_at system views d).spare
+  pub limit : (d : ℕ) → d < domain_count (order_setup system) →
+      tick_count_of (view_at system views d) + turns_of d left ≤ most_ticks
   pub link_count : length b.links ≡ channel_count (order_setup system)
-  pub links : (c : ℕ) → c < channel_count (order_setup system) → ((link_at b.links c).sender ≡ (channel_at (tables_of system) c).sender) × ((link_at b.links c).receiver ≡ (channel_at (tables_of system) c).receiver)
-  pub kinds : (c : ℕ) → c < channel_count (order_setup system) → (link_at b.links c).kind ≡ (channel_at (tables_of system) c).kind
+  pub links : (c : ℕ) → c < channel_count (order_setup system) →
+      ((link_at b.links c).sender ≡ (channel_at (tables_of system) c).sender) ×
+      ((link_at b.links c).receiver ≡ (channel_at (tables_of system) c).receiver)
+  pub kinds : (c : ℕ) → c < channel_count (order_setup system) →
+      (link_at b.links c).kind ≡ (channel_at (tables_of system) c).kind
   pub tick_counts : length b.ticks ≡ domain_count (order_setup system)
-  pub ticks : (d : ℕ) → d < domain_count (order_setup system) → ticks_in b d ≡ tick_count_of (view_at system views d)
-  pub lists : (d : ℕ) → d < domain_count (order_setup system) → get_or b.lists d [] ≡ ends_of (tables_of system) d
+  pub ticks : (d : ℕ) → d < domain_count (order_setup system) →
+      ticks_in b d ≡ tick_count_of (view_at system views d)
+  pub lists : (d : ℕ) → d < domain_count (order_setup system) →
+      get_or b.lists d [] ≡ ends_of (tables_of system) d
   pub rooms : (c : ℕ) → c < channel_count (order_setup system) →
-      2 + turns_of (channel_at (tables_of system) c).sender left + turns_of (channel_at (tables_of system) c).receiver left ≤ (history_in b c).room
-  pub stands : StandsFor system turns left (view_at system views) (cell_in b) (λ c. (history_in b c).rows)
+      2 + turns_of (channel_at (tables_of system) c).sender left + turns_of
+      (channel_at (tables_of system) c).receiver left ≤ (history_in b c).room
+  pub stands : StandsFor system turns left (view_at system views) (cell_in b)
+      (λ c. (history_in b c).rows)
   pub fits : FitSoFar system views b

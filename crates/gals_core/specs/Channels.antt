@@ -45,13 +45,16 @@ abbrev pub end_view : ChannelsState → ℕ → EndView
 end_view b at = record {
   side = (end_at b.ends at).side;
   kind = (link_at b.links (end_at b.ends at).channel).kind;
-  offer = standing_offer (end_at b.ends at).side (standing_at (end_at b.ends at).side (cell_in b (end_at b.ends at).channel));
+  offer =
+      standing_offer (end_at b.ends at).side
+      (standing_at (end_at b.ends at).side (cell_in b (end_at b.ends at).channel));
   room = (history_in b (end_at b.ends at).channel).room;
 }
 
 -- ends of different channels
 pub record EndsFit (links : List Link) (ends : List EndOf) : Type 0 where
-  pub apart : (i k : ℕ) → i < length ends → k < length ends → i ≢ k → (end_at ends i).channel ≢ (end_at ends k).channel
+  pub apart : (i k : ℕ) → i < length ends → k < length ends → i ≢ k →
+      (end_at ends i).channel ≢ (end_at ends k).channel
   pub within : (n : ℕ) → n < length ends → (end_at ends n).channel < length links
 
 -- A cell and a history for each channel, whose values lie in its kind and whose stamps are below 2^62. A
@@ -84,9 +87,11 @@ abbrev pub no_history : HistoryState
 no_history = record { rows = []; room = 0 }
 
 -- the histories once an offer of a channel has been answered so
-abbrev pub with_reply : List Link → List ℕ → ℕ → Option Joined → List HistoryState → List HistoryState
+abbrev pub with_reply : List Link → List ℕ → ℕ → Option Joined → List HistoryState →
+    List HistoryState
 with_reply links ticks c None histories = histories
-with_reply links ticks c (Some j) histories = set histories c (with_row (get_or histories c no_history) (row_of links ticks c j))
+with_reply links ticks c (Some j) histories =
+    set histories c (with_row (get_or histories c no_history) (row_of links ticks c j))
 
 -- an offer that is answered is a join more
 abbrev pub rows_of : ChannelsState → ℕ → CellMove → Option Joined → List JoinRow
@@ -96,7 +101,8 @@ rows_of b c (Recall a) answer = []
 
 -- The cell of the channel has made this move, with this reply, and where an offer was answered the channel's
 -- history has a row more. All else is as before.
-pub record MovesAt (old : ChannelsState) (c : ℕ) (move : CellMove) (answer : Option Joined) (new : ChannelsState) : Type 0 where
+pub record MovesAt (old : ChannelsState) (c : ℕ) (move : CellMove) (answer : Option Joined)
+    (new : ChannelsState) : Type 0 where
   pub same_links : new.links ≡ old.links
   pub same_ticks : new.ticks ≡ old.ticks
   pub same_lists : new.lists ≡ old.lists
@@ -104,7 +110,8 @@ pub record MovesAt (old : ChannelsState) (c : ℕ) (move : CellMove) (answer : O
   pub replies : answer ≡ cell_reply move (cell_in old c)
   pub cell : cell_in new c ≡ cell_step move (cell_in old c)
   pub rows : (history_in new c).rows ≡ (history_in old c).rows ++ rows_of old c move answer
-  pub room : (history_in new c).room + length (history_in new c).rows ≡ (history_in old c).room + length (history_in old c).rows
+  pub room : (history_in new c).room + length (history_in new c).rows ≡
+      (history_in old c).room + length (history_in old c).rows
   pub other_cells : (k : ℕ) → k ≢ c → cell_in new k ≡ cell_in old k
   pub other_histories : (k : ℕ) → k ≢ c → history_in new k ≡ history_in old k
 

@@ -21,10 +21,12 @@ pub record IsReserved (system : System) (d ticks : ℕ) (v : DomainView) : Type 
   pub is : v ≡ reserved ticks first
 
 -- all that the run needs is there: memory for the ticks and joins, and for the logs of so many domains
-pub record IsReady (system : System) (ticks : List ℕ) (views : List DomainView) (b : ChannelsState) (logs : Vec LogState Global) : Type 0 where
+pub record IsReady (system : System) (ticks : List ℕ) (views : List DomainView) (b : ChannelsState)
+    (logs : Vec LogState Global) : Type 0 where
   pub budgets : AreBudgets system ticks
   pub count : length views ≡ length (domains_of system)
-  pub domains : (d : ℕ) → d < length views → IsReserved system d (get_or ticks d 0) (view_at system views d)
+  pub domains : (d : ℕ) → d < length views →
+      IsReserved system d (get_or ticks d 0) (view_at system views d)
   pub channels : AreOpened system ticks b
   pub no_logs : logs.items ≡ []
   pub room : length views ≤ vec_capacity logs

@@ -41,27 +41,39 @@ pending cell ends = map (λ e. recall_reply (standing_at e.side (cell e.channel)
 
 -- The domain of this number is as its sides of the cells show it: an end stands exactly where it waits, with
 -- the offer of the last tick.
-pub record IsInCells (system : System) (d : ℕ) (cell : ℕ → CellState) (v : DomainView) : Type 0 where
+pub record IsInCells (system : System) (d : ℕ) (cell : ℕ →
+    CellState) (v : DomainView) : Type 0 where
   pub of_system : v.system ≡ system
   pub of_domain : v.domain ≡ d
   pub runs : v.stopped ≡ false
   pub lists : length v.joins ≡ length (ends_of (tables_of system) d)
   pub later : (t : ℕ) → tick_count_of v < t → newest_of t v.joins ≡ 0
-  pub stands : (n : ℕ) → n < length (ends_of (tables_of system) d) → get_or v.standing n false ≡ true →
-      IsSomeAnd (own_side cell (end_at (ends_of (tables_of system) d) n)) (IsWaitingOffer (end_at (ends_of (tables_of system) d) n) v.stamp (state_of v).statement)
-  pub free : (n : ℕ) → n < length (ends_of (tables_of system) d) → get_or v.standing n false ≡ false → IsNone (own_side cell (end_at (ends_of (tables_of system) d) n))
-  pub idle : (n : ℕ) → n < length (ends_of (tables_of system) d) → get_or v.standing n false ≡ false → (value : ℤ) → Waits (end_at (ends_of (tables_of system) d) n) value (state_of v).statement → ⊥
+  pub stands : (n : ℕ) → n < length (ends_of (tables_of system) d) →
+      get_or v.standing n false ≡ true →
+      IsSomeAnd (own_side cell (end_at (ends_of (tables_of system) d) n))
+      (IsWaitingOffer (end_at (ends_of (tables_of system) d) n) v.stamp (state_of v).statement)
+  pub free : (n : ℕ) → n < length (ends_of (tables_of system) d) →
+      get_or v.standing n false ≡ false →
+      IsNone (own_side cell (end_at (ends_of (tables_of system) d) n))
+  pub idle : (n : ℕ) → n < length (ends_of (tables_of system) d) →
+      get_or v.standing n false ≡ false → (value : ℤ) →
+      Waits (end_at (ends_of (tables_of system) d) n) value (state_of v).statement → ⊥
 
 -- the domain's state with the joins that it has yet to find
 abbrev pub found_state : System → ℕ → (ℕ → CellState) → DomainView → DomainState
-found_state system d cell v = with_answers (ends_of (tables_of system) d) (pending cell (ends_of (tables_of system) d)) (length (ends_of (tables_of system) d)) (state_of v)
+found_state system d cell v =
+    with_answers (ends_of (tables_of system) d) (pending cell (ends_of (tables_of system) d))
+    (length (ends_of (tables_of system) d)) (state_of v)
 
 -- the greatest of the stamps of its last tick and of the joins since then, also of those
 abbrev pub found_stamp : System → ℕ → (ℕ → CellState) → DomainView → ℕ
-found_stamp system d cell v = raised (pending cell (ends_of (tables_of system) d)) (length (ends_of (tables_of system) d)) (max v.stamp (newest_of (tick_count_of v) v.joins))
+found_stamp system d cell v =
+    raised (pending cell (ends_of (tables_of system) d)) (length (ends_of (tables_of system) d))
+    (max v.stamp (newest_of (tick_count_of v) v.joins))
 
 -- the run's logs and histories begin with these
-pub record RunBeginsWith (r : RunState) (entries : ℕ → List Entry) (rows : ℕ → List JoinRow) : Type 0 where
+pub record RunBeginsWith (r : RunState) (entries : ℕ → List Entry) (rows : ℕ →
+    List JoinRow) : Type 0 where
   pub more_entries : ℕ → List Entry
   pub more_rows : ℕ → List JoinRow
   pub logs : (d : ℕ) → (log_of r d).entries ≡ entries d ++ more_entries d
@@ -73,26 +85,34 @@ pub record EndsIn (setup : Setup) (r : RunState) (end : SystemState) : Type 0 wh
   pub marks : (d : ℕ) → d < domain_count setup → (log_of r d).mark ≡ (end.domain d).mark
 
 -- Whatever run goes on from here with the turns that are left is the scheduled run of all turns.
-pub record GoesOn (system : System) (turns left : List ℕ) (entries : ℕ → List Entry) (rows : ℕ → List JoinRow) (s : SystemState) (last since : ℕ → ℕ) : Type 0 where
+pub record GoesOn (system : System) (turns left : List ℕ) (entries : ℕ → List Entry) (rows : ℕ →
+    List JoinRow) (s : SystemState) (last since : ℕ → ℕ) : Type 0 where
   pub t : ℕ → ℕ
   pub j : ℕ → ℕ
   pub t_is : (d : ℕ) → t d ≡ length (entries d)
   pub j_is : (c : ℕ) → j c ≡ length (rows c)
-  pub completes : (r : RunState) (moves : List Move) (end : SystemState) → RunBeginsWith r entries rows → TakesTurns (order_setup system) s left moves end → TellsFrom r t j moves →
-      StampsFrom (order_setup system) r t j last since moves → EndsIn (order_setup system) r end → IsScheduledRun (order_setup system) r turns end
+  pub completes : (r : RunState) (moves : List Move) (end : SystemState) →
+      RunBeginsWith r entries rows → TakesTurns (order_setup system) s left moves end →
+      TellsFrom r t j moves →
+      StampsFrom (order_setup system) r t j last since moves → EndsIn (order_setup system) r end →
+      IsScheduledRun (order_setup system) r turns end
 
 -- The domains and the cells of the channels stand for a state of the system from which the turns that are left
 -- complete the scheduled run.
-pub record StandsFor (system : System) (turns left : List ℕ) (view : ℕ → DomainView) (cell : ℕ → CellState) (rows : ℕ → List JoinRow) : Type 0 where
+pub record StandsFor (system : System) (turns left : List ℕ) (view : ℕ → DomainView) (cell : ℕ →
+    CellState) (rows : ℕ → List JoinRow) : Type 0 where
   pub s : SystemState
   pub last : ℕ → ℕ
   pub since : ℕ → ℕ
   pub goes_on : GoesOn system turns left (λ d. (view d).log.entries) rows s last since
   pub views : (d : ℕ) → d < domain_count (order_setup system) → IsInCells system d cell (view d)
-  pub state : (d : ℕ) → d < domain_count (order_setup system) → s.domain d ≡ found_state system d cell (view d)
+  pub state : (d : ℕ) → d < domain_count (order_setup system) →
+      s.domain d ≡ found_state system d cell (view d)
   pub last_is : (d : ℕ) → d < domain_count (order_setup system) → last d ≡ (view d).stamp
-  pub since_is : (d : ℕ) → d < domain_count (order_setup system) → since d ≡ found_stamp system d cell (view d)
-  pub low : (d : ℕ) → d < domain_count (order_setup system) → since d + 2 * length left ≤ 2 * length turns
+  pub since_is : (d : ℕ) → d < domain_count (order_setup system) →
+      since d ≡ found_stamp system d cell (view d)
+  pub low : (d : ℕ) → d < domain_count (order_setup system) →
+      since d + 2 * length left ≤ 2 * length turns
 
 -- a domain of the system before its first tick
 pub record IsNew (system : System) (d : ℕ) (v : DomainView) : Type 0 where

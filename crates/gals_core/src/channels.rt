@@ -35,9 +35,23 @@ impl Model for Channels {
 
     ghost Value = { ChannelsState };
 
-    ghost view = { λ b. record { links = b.links.items; cells = b.cells.items; histories = b.histories.items; ticks = b.ticks.items; lists = lists_in b.lists.items; ends = get_or (lists_in b.lists.items) b.turn [] } };
+    ghost view = { λ b. record {
+      links = b.links.items;
+      cells = b.cells.items;
+      histories = b.histories.items;
+      ticks = b.ticks.items;
+      lists = lists_in b.lists.items;
+      ends = get_or (lists_in b.lists.items) b.turn [];
+    } };
 
-    ghost invariant = { λ b. AreChannels (record { links = b.links.items; cells = b.cells.items; histories = b.histories.items; ticks = b.ticks.items; lists = lists_in b.lists.items; ends = get_or (lists_in b.lists.items) b.turn [] }) };
+    ghost invariant = { λ b. AreChannels (record {
+      links = b.links.items;
+      cells = b.cells.items;
+      histories = b.histories.items;
+      ticks = b.ticks.items;
+      lists = lists_in b.lists.items;
+      ends = get_or (lists_in b.lists.items) b.turn [];
+    }) };
 }
 
 // An end of the domain whose turn it is.
@@ -51,9 +65,13 @@ fn own_end(lists: &Vec<Vec<EndOf>>, turn: usize, at: usize) -> EndOf
 // Recalls a side of a channel's cell.
 fn recall_at(cells: &mut Vec<Cell>, channel: u32, side: Side) -> Option<Joined>
     requires within { channel < length cells.old.items }
-    requires standing { stands (standing_at side (get_or cells.old.items channel empty_cell)) ≡ true }
-    ensures cells { cells.new.items ≡ set cells.old.items channel (cell_step (moves.Recall side) (get_or cells.old.items channel empty_cell)) }
-    ensures reply { result ≡ cell_reply (moves.Recall side) (get_or cells.old.items channel empty_cell) }
+    requires standing { stands (standing_at side (get_or cells.old.items channel empty_cell)) ≡
+        true }
+    ensures cells { cells.new.items ≡
+        set cells.old.items channel
+        (cell_step (moves.Recall side) (get_or cells.old.items channel empty_cell)) }
+    ensures reply { result ≡
+        cell_reply (moves.Recall side) (get_or cells.old.items channel empty_cell) }
 {
     cells[channel as usize].recall(side)
 }
@@ -67,10 +85,14 @@ fn offer_at(
     stamp: u64,
 ) -> Option<Joined>
     requires within { channel < length cells.old.items }
-    requires standing { stands (standing_at side (get_or cells.old.items channel empty_cell)) ≡ false }
+    requires standing { stands (standing_at side (get_or cells.old.items channel empty_cell)) ≡
+        false }
     requires stamp { stamp < 2 ^ 62 }
-    ensures cells { cells.new.items ≡ set cells.old.items channel (cell_step (moves.Offer side value stamp) (get_or cells.old.items channel empty_cell)) }
-    ensures reply { result ≡ cell_reply (moves.Offer side value stamp) (get_or cells.old.items channel empty_cell) }
+    ensures cells { cells.new.items ≡
+        set cells.old.items channel
+        (cell_step (moves.Offer side value stamp) (get_or cells.old.items channel empty_cell)) }
+    ensures reply { result ≡
+        cell_reply (moves.Offer side value stamp) (get_or cells.old.items channel empty_cell) }
 {
     cells[channel as usize].offer(side, value, stamp)
 }
@@ -89,7 +111,8 @@ fn add_reply(
     requires sender { (link_at links.now.items channel).sender < length ticks.now.items }
     requires receiver { (link_at links.now.items channel).receiver < length ticks.now.items }
     requires stamps { IfSome reply StampsFit }
-    ensures { histories.new.items ≡ with_reply links.now.items ticks.now.items channel reply histories.old.items }
+    ensures { histories.new.items ≡
+        with_reply links.now.items ticks.now.items channel reply histories.old.items }
 {
     if let Some(joined) = reply {
         let link = links[channel as usize];

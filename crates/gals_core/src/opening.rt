@@ -66,8 +66,10 @@ pub fn open_lists(alloc: Global, domains: &[Domain]) -> Result<Vec<Vec<EndOf>>, 
 /// Memory for at least its number of ticks more for each domain.
 pub fn reserve_all(domains: &mut Vec<Domain>, ticks: &[u32]) -> Result<(), NoMemory>
     requires count { length domains.old.items ≡ length ticks.now }
-    requires few { (d : ℕ) (v : DomainView) → d < length ticks.now → tick_count_of (get_or domains.old.items d v) + get_or ticks.now d 0 < 2 ^ 32 }
-    ensures { IfOk result (λ _. Reserves ticks.now (length domains.old.items) domains.old.items domains.new.items) }
+    requires few { (d : ℕ) (v : DomainView) → d < length ticks.now →
+        tick_count_of (get_or domains.old.items d v) + get_or ticks.now d 0 < 2 ^ 32 }
+    ensures { IfOk result (λ _. Reserves ticks.now (length domains.old.items) domains.old.items
+        domains.new.items) }
 {
     for at in 0..domains.len() {
         domains[at].reserve(ticks[at])?;

@@ -26,7 +26,8 @@ fn term(form: Form) -> Term
 
 // `send C(5); emit D;`
 fn sending(alloc: Global) -> Result<Term, NoMemory>
-    ensures { IfOk result (IsTermOf (rules.Seq (rules.Send 0 (Literal kind.Int (pos 5))) (rules.Emit 0 None))) }
+    ensures { IfOk result (IsTermOf
+        (rules.Seq (rules.Send 0 (Literal kind.Int (pos 5))) (rules.Emit 0 None))) }
 {
     let five = Expr {
         kind: Kind::Int,
@@ -58,7 +59,14 @@ fn receiving(alloc: Global) -> Result<Term, NoMemory>
 }
 
 fn output(alloc: Global, name: &[u8], domain: u32) -> Result<SignalInfo, NoMemory>
-    ensures { IfOk result (λ s. s ≡ record { name = name.now; domain = domain; sort = Sort.Output; kind = None; combine = Combine.Max }) }
+    ensures { IfOk result (λ s. s ≡
+        record {
+          name = name.now;
+          domain = domain;
+          sort = Sort.Output;
+          kind = None;
+          combine = Combine.Max;
+        }) }
 {
     Ok(SignalInfo {
         name: Text::new(alloc, name)?,

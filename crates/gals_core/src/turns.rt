@@ -16,8 +16,10 @@ fn take_turn(
     channels: &mut Channels,
 )
     requires within { at < length turns.now }
-    requires between { IsBetweenTurns system.now turns.now (drop at turns.now) domains.old.items channels.old }
-    ensures { IsBetweenTurns system.now turns.now (drop (at + 1) turns.now) domains.new.items channels.new }
+    requires between { IsBetweenTurns system.now turns.now (drop at turns.now) domains.old.items
+        channels.old }
+    ensures { IsBetweenTurns system.now turns.now (drop (at + 1) turns.now) domains.new.items
+        channels.new }
 {
     let turn = turns[at];
     if domains[turn as usize].ended() {

@@ -30,4 +30,8 @@ cast_expr k e = expr_of k (expr_form.Cast e)
 
 -- of a signal of this kind, whose operator stands at place 9
 abbrev pub failures_with : Kind → CombineOperator → List TypeFailure
-failures_with k o = combination_failures (Some (record { kind = k; combine = Some (record { at = 9; operator = o }) }))
+failures_with k o =
+    combination_failures (Some (record {
+      kind = k;
+      combine = Some (record { at = 9; operator = o });
+    }))

@@ -104,7 +104,8 @@ pub fn updated(
     op: Op2,
     operand: Operand,
 ) -> Result<Expr, TypeError>
-    ensures { MatchResult result (λ e. updated kind variable sign_at op operand ≡ fine e) (IsFirst (updated kind variable sign_at op operand)) }
+    ensures { MatchResult result (λ e. updated kind variable sign_at op operand ≡
+        fine e) (IsFirst (updated kind variable sign_at op operand)) }
 {
     let old = Expr {
         kind,

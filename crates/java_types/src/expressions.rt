@@ -48,7 +48,9 @@ fn value_of_name(
     name_at: u32,
     entry: Entry,
 ) -> Result<Operand, TypeError>
-    ensures { MatchResult result (λ o. value_of_name first name_at (entry_expression tables.now entry) ≡ fine o) (IsFirst (value_of_name first name_at (entry_expression tables.now entry))) }
+    ensures { MatchResult result (λ o. value_of_name first name_at
+        (entry_expression tables.now entry) ≡
+        fine o) (IsFirst (value_of_name first name_at (entry_expression tables.now entry))) }
 {
     match entry_expression(tables, entry) {
         Some(expr) => Ok(Operand {
@@ -70,7 +72,8 @@ pub struct Operands {
 /// The operator on two operands, at its place.
 #[tactic(auto, using(crate::proofs::CheckLemmas::checks))]
 fn binary_operand(alloc: Global, at: u32, op: Op2, operands: Operands) -> Result<Operand, TypeError>
-    ensures { MatchResult result (λ o. binary_operand at op operands ≡ fine o) (IsFirst (binary_operand at op operands)) }
+    ensures { MatchResult result (λ o. binary_operand at op operands ≡
+        fine o) (IsFirst (binary_operand at op operands)) }
 {
     let first = operands.left.first;
     let expr = binary(alloc, at, op, operands.left.expr, operands.right)?;
@@ -84,7 +87,8 @@ fn binary_operand(alloc: Global, at: u32, op: Op2, operands: Operands) -> Result
 /// The expression with its kind, or the first thing that is wrong with it.
 #[tactic(auto, using(crate::proofs::CheckLemmas::pairs))]
 pub fn expression(alloc: Global, tables: &Tables, raw: &Raw<Entry>) -> Result<Operand, TypeError>
-    ensures { MatchResult result (λ o. checked_expression tables.now raw.now ≡ fine o) (IsFirst (checked_expression tables.now raw.now)) }
+    ensures { MatchResult result (λ o. checked_expression tables.now raw.now ≡
+        fine o) (IsFirst (checked_expression tables.now raw.now)) }
 {
     match raw {
         Raw::Literal { at, value } => Ok(plain_literal(*at, *value)),

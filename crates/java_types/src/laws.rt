@@ -9,7 +9,8 @@ use sj_names::Bound;
 /// Expressions of a tree with kinds have their kinds by operators and operands, those of what they are given to, and
 /// allowed divisors.
 pub fn fitting_kinds(bound: &Bound, typed: &Typed)
-    requires names { fits_tree bound.now.tables (entry_rules bound.now.tables) bound.now.tree ≡ true }
+    requires names { fits_tree bound.now.tables (entry_rules bound.now.tables) bound.now.tree ≡
+        true }
     requires typing { IsTyping bound.now typed.now }
     ensures { fits_tree typed.now.tables (kind_rules typed.now.tables) typed.now.tree ≡ true }
 {}

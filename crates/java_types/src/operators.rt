@@ -64,7 +64,8 @@ fn may_divide(op: Op2, spelling: Spelling) -> bool
 
 /// The operator on one operand, at its place.
 pub fn unary(alloc: Global, at: u32, op: Op1, operand: Operand) -> Result<Operand, TypeError>
-    ensures { MatchResult result (λ o. unary at op operand ≡ fine o) (IsFirst (unary at op operand)) }
+    ensures { MatchResult result (λ o. unary at op operand ≡
+        fine o) (IsFirst (unary at op operand)) }
 {
     let Some(kind) = fits1(op, operand.expr.kind) else {
         return Err(TypeError::Failed(TypeFailure::Mismatch(at)));
@@ -82,7 +83,8 @@ pub fn unary(alloc: Global, at: u32, op: Op1, operand: Operand) -> Result<Operan
 
 /// The cast of an operand, at its place.
 pub fn cast(alloc: Global, at: u32, kind: Kind, operand: Operand) -> Result<Operand, TypeError>
-    ensures { MatchResult result (λ o. cast at kind operand ≡ fine o) (IsFirst (cast at kind operand)) }
+    ensures { MatchResult result (λ o. cast at kind operand ≡
+        fine o) (IsFirst (cast at kind operand)) }
 {
     if !can_cast(operand.expr.kind, kind) {
         return Err(TypeError::Failed(TypeFailure::Mismatch(at)));
@@ -116,7 +118,8 @@ pub fn binary(
     left: Expr,
     right: Operand,
 ) -> Result<Expr, TypeError>
-    ensures { MatchResult result (λ e. binary at op left right ≡ fine e) (IsFirst (binary at op left right)) }
+    ensures { MatchResult result (λ e. binary at op left right ≡
+        fine e) (IsFirst (binary at op left right)) }
 {
     let Some(kind) = fits2(op, left.kind, right.expr.kind) else {
         return Err(TypeError::Failed(TypeFailure::Mismatch(at)));

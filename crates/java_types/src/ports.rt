@@ -11,7 +11,8 @@ use std::alloc::Global;
 
 /// What is wrong with the operator of a signal's `combine`.
 pub fn combination_failure(valued: Option<Valued>) -> Option<TypeFailure>
-    ensures { MatchOption result (combination_failures valued ≡ []) (λ f. combination_failures valued ≡ f ∷ []) }
+    ensures { MatchOption result (combination_failures valued ≡
+        []) (λ f. combination_failures valued ≡ f ∷ []) }
 {
     let valued = valued?;
     let combination = valued.combine?;
@@ -38,7 +39,8 @@ pub fn copied_signal(signal: &Signal<u32>) -> Signal<u32>
 }
 
 fn port_failure(port: &Port<u32>) -> Option<TypeFailure>
-    ensures { MatchOption result (port_failures port.now ≡ []) (λ f. port_failures port.now ≡ f ∷ []) }
+    ensures { MatchOption result (port_failures port.now ≡ []) (λ f. port_failures port.now ≡
+        f ∷ []) }
 {
     match port {
         Port::Signal(port) => combination_failure(port.signal.valued),
@@ -48,7 +50,8 @@ fn port_failure(port: &Port<u32>) -> Option<TypeFailure>
 
 /// The first thing that is wrong with the ports.
 pub fn first_port_failure(ports: &[Port<u32>]) -> Option<TypeFailure>
-    ensures { MatchOption result (flat_map port_failures ports.now ≡ []) (λ f. first_of (flat_map port_failures ports.now) ≡ Some f) }
+    ensures { MatchOption result (flat_map port_failures ports.now ≡
+        []) (λ f. first_of (flat_map port_failures ports.now) ≡ Some f) }
 {
     for port in ports {
         if let Some(failure) = port_failure(port) {

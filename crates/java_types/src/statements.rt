@@ -24,7 +24,8 @@ fn value_for(
     kind: Kind,
     value: &Raw<Entry>,
 ) -> Result<Expr, TypeError>
-    ensures { MatchResult result (λ e. value_for tables.now kind value.now ≡ fine e) (IsFirst (value_for tables.now kind value.now)) }
+    ensures { MatchResult result (λ e. value_for tables.now kind value.now ≡
+        fine e) (IsFirst (value_for tables.now kind value.now)) }
 {
     let operand = expression(alloc, tables, value)?;
     given(alloc, kind, operand)
@@ -32,7 +33,8 @@ fn value_for(
 
 #[tactic(auto, using(crate::proofs::CheckLemmas::checks))]
 fn condition_of(alloc: Global, tables: &Tables, value: &Raw<Entry>) -> Result<Expr, TypeError>
-    ensures { MatchResult result (λ e. condition_of tables.now value.now ≡ fine e) (IsFirst (condition_of tables.now value.now)) }
+    ensures { MatchResult result (λ e. condition_of tables.now value.now ≡
+        fine e) (IsFirst (condition_of tables.now value.now)) }
 {
     let operand = expression(alloc, tables, value)?;
     condition(operand)
@@ -47,7 +49,8 @@ fn emission_of(
     signal: u32,
     value: &Option<Raw<Entry>>,
 ) -> Result<Option<Expr>, TypeError>
-    ensures { MatchResult result (λ o. emission_of tables.now name_at signal value.now ≡ fine o) (IsFirst (emission_of tables.now name_at signal value.now)) }
+    ensures { MatchResult result (λ o. emission_of tables.now name_at signal value.now ≡
+        fine o) (IsFirst (emission_of tables.now name_at signal value.now)) }
 {
     match signal_kind(tables, signal) {
         Some(kind) => match value {
@@ -71,7 +74,8 @@ fn update_of(
     op: Op2,
     value: &Raw<Entry>,
 ) -> Result<Expr, TypeError>
-    ensures { MatchResult result (λ e. update_of tables.now variable sign_at op value.now ≡ fine e) (IsFirst (update_of tables.now variable sign_at op value.now)) }
+    ensures { MatchResult result (λ e. update_of tables.now variable sign_at op value.now ≡
+        fine e) (IsFirst (update_of tables.now variable sign_at op value.now)) }
 {
     let operand = expression(alloc, tables, value)?;
     updated(
@@ -86,7 +90,9 @@ fn update_of(
 
 /// A local signal, whose operator fits its kind.
 fn declaration(signal: &Signal<u32>) -> Result<Signal<u32>, TypeError>
-    ensures { MatchResult result (λ s. after (combination_failures signal.now.valued) (fine signal.now) ≡ fine s) (IsFirst (after (combination_failures signal.now.valued) (fine signal.now))) }
+    ensures { MatchResult result (λ s. after (combination_failures signal.now.valued)
+        (fine signal.now) ≡
+        fine s) (IsFirst (after (combination_failures signal.now.valued) (fine signal.now))) }
 {
     match combination_failure(signal.valued) {
         Some(failure) => Err(TypeError::Failed(failure)),
@@ -100,7 +106,8 @@ fn statement(
     tables: &Tables,
     statement: &Stmt<u32, Raw<Entry>>,
 ) -> Result<Stmt<u32, Expr>, TypeError>
-    ensures { MatchResult result (λ s. checked_stmt tables.now statement.now ≡ fine s) (IsFirst (checked_stmt tables.now statement.now)) }
+    ensures { MatchResult result (λ s. checked_stmt tables.now statement.now ≡
+        fine s) (IsFirst (checked_stmt tables.now statement.now)) }
 {
     let form = form(alloc, tables, &statement.form)?;
     Ok(Stmt {
@@ -116,7 +123,8 @@ fn form(
     tables: &Tables,
     form: &Form<u32, Raw<Entry>>,
 ) -> Result<Form<u32, Expr>, TypeError>
-    ensures { MatchResult result (λ f. checked_form tables.now form.now ≡ fine f) (IsFirst (checked_form tables.now form.now)) }
+    ensures { MatchResult result (λ f. checked_form tables.now form.now ≡
+        fine f) (IsFirst (checked_form tables.now form.now)) }
 {
     match form {
         Form::Empty => Ok(Form::Empty),
@@ -299,7 +307,8 @@ fn other_block(
     tables: &Tables,
     given: &Option<Block<u32, Raw<Entry>>>,
 ) -> Result<Option<Block<u32, Expr>>, TypeError>
-    ensures { MatchResult result (λ o. checked_other tables.now given.now ≡ fine o) (IsFirst (checked_other tables.now given.now)) }
+    ensures { MatchResult result (λ o. checked_other tables.now given.now ≡
+        fine o) (IsFirst (checked_other tables.now given.now)) }
 {
     match given {
         Some(given) => Ok(Some(block(alloc, tables, given)?)),
@@ -314,7 +323,8 @@ pub fn blocks(
     tables: &Tables,
     blocks: &[Block<u32, Raw<Entry>>],
 ) -> Result<Items<Block<u32, Expr>>, TypeError>
-    ensures { MatchResult result (λ bs. all_checked (map (checked_block tables.now) blocks.now) ≡ fine bs) (IsFirst (all_checked (map (checked_block tables.now) blocks.now))) }
+    ensures { MatchResult result (λ bs. all_checked (map (checked_block tables.now) blocks.now) ≡
+        fine bs) (IsFirst (all_checked (map (checked_block tables.now) blocks.now))) }
 {
     let mut typed = Vec::new(alloc);
     for part in blocks {
@@ -330,7 +340,8 @@ fn block(
     tables: &Tables,
     block: &Block<u32, Raw<Entry>>,
 ) -> Result<Block<u32, Expr>, TypeError>
-    ensures { MatchResult result (λ b. checked_block tables.now block.now ≡ fine b) (IsFirst (checked_block tables.now block.now)) }
+    ensures { MatchResult result (λ b. checked_block tables.now block.now ≡
+        fine b) (IsFirst (checked_block tables.now block.now)) }
 {
     let statements = statements(alloc, tables, block.statements.as_slice())?;
     Ok(Block {
@@ -346,7 +357,8 @@ fn statements(
     tables: &Tables,
     statements: &[Stmt<u32, Raw<Entry>>],
 ) -> Result<Items<Stmt<u32, Expr>>, TypeError>
-    ensures { MatchResult result (λ ss. all_checked (map (checked_stmt tables.now) statements.now) ≡ fine ss) (IsFirst (all_checked (map (checked_stmt tables.now) statements.now))) }
+    ensures { MatchResult result (λ ss. all_checked (map (checked_stmt tables.now) statements.now) ≡
+        fine ss) (IsFirst (all_checked (map (checked_stmt tables.now) statements.now))) }
 {
     let mut typed = Vec::new(alloc);
     for part in statements {

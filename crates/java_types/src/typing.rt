@@ -19,7 +19,8 @@ fn typed_tree(
     tables: &Tables,
     tree: &Tree<u32, Raw<Entry>>,
 ) -> Result<Tree<u32, Expr>, TypeError>
-    ensures { MatchResult result (λ t. checked_tree tables.now tree.now ≡ fine t) (IsFirst (checked_tree tables.now tree.now)) }
+    ensures { MatchResult result (λ t. checked_tree tables.now tree.now ≡
+        fine t) (IsFirst (checked_tree tables.now tree.now)) }
 {
     let ports = tree.ports.as_slice();
     if let Some(failure) = first_port_failure(ports) {

@@ -20,10 +20,14 @@ is_word (b ∷ bs) = is_letter b && list_all is_word_byte bs
 
 abbrev pub reserved_words : List (List ℕ)
 reserved_words =
-    codes "system" ∷ codes "interface" ∷ codes "input" ∷ codes "output" ∷ codes "signal" ∷ codes "channel" ∷ codes "combine" ∷ codes "max" ∷ codes "min"
+    codes "system" ∷ codes "interface" ∷ codes "input" ∷ codes "output" ∷ codes "signal" ∷
+    codes "channel" ∷ codes "combine" ∷ codes "max" ∷ codes "min"
     ∷ codes "boolean" ∷ codes "byte" ∷ codes "short" ∷ codes "char" ∷ codes "int" ∷ codes "long"
-    ∷ codes "pause" ∷ codes "halt" ∷ codes "emit" ∷ codes "sustain" ∷ codes "if" ∷ codes "else" ∷ codes "present" ∷ codes "while" ∷ codes "true" ∷ codes "false"
-    ∷ codes "weak" ∷ codes "abort" ∷ codes "immediate" ∷ codes "suspend" ∷ codes "trap" ∷ codes "exit" ∷ codes "send" ∷ codes "receive" ∷ codes "await" ∷ codes "every" ∷ codes "loop" ∷ codes "each"
+    ∷ codes "pause" ∷ codes "halt" ∷ codes "emit" ∷ codes "sustain" ∷ codes "if" ∷ codes "else" ∷
+    codes "present" ∷ codes "while" ∷ codes "true" ∷ codes "false"
+    ∷ codes "weak" ∷ codes "abort" ∷ codes "immediate" ∷ codes "suspend" ∷ codes "trap" ∷
+    codes "exit" ∷ codes "send" ∷ codes "receive" ∷ codes "await" ∷ codes "every" ∷
+    codes "loop" ∷ codes "each"
     ∷ []
 
 abbrev pub is_reserved : List ℕ → Bool
@@ -55,7 +59,8 @@ after_dot (b ∷ bs) = cond (b == 46) bs (after_dot bs)
 -- the form of a channel's name over the names of one sort: such a name, or one followed by `.` and a
 -- number below 64
 abbrev pub has_channel_form : (List ℕ → Bool) → List ℕ → Bool
-has_channel_form is_of_sort w = is_of_sort w || (is_of_sort (before_dot w) && is_place (after_dot w))
+has_channel_form is_of_sort w =
+    is_of_sort w || (is_of_sort (before_dot w) && is_place (after_dot w))
 
 abbrev pub is_channel_name : List ℕ → Bool
 is_channel_name = has_channel_form is_name

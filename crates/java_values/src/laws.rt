@@ -16,8 +16,10 @@ pub fn wrapped_numbers_are_in_range()
 
 /// The least number divided by -1 wraps to itself, and leaves 0.
 pub fn least_number_by_minus_one()
-    ensures int { applied2 Op2.Div Kind.Int (negsuc 2147483647) Kind.Int (negsuc 0) ≡ negsuc 2147483647 }
-    ensures long { applied2 Op2.Div Kind.Long (negsuc 9223372036854775807) Kind.Int (negsuc 0) ≡ negsuc 9223372036854775807 }
+    ensures int { applied2 Op2.Div Kind.Int (negsuc 2147483647) Kind.Int (negsuc 0) ≡
+        negsuc 2147483647 }
+    ensures long { applied2 Op2.Div Kind.Long (negsuc 9223372036854775807) Kind.Int (negsuc 0) ≡
+        negsuc 9223372036854775807 }
     ensures remainder { applied2 Op2.Rem Kind.Int (negsuc 2147483647) Kind.Int (negsuc 0) ≡ pos 0 }
     ensures negated { applied1 Op1.Minus Kind.Int (negsuc 2147483647) ≡ negsuc 2147483647 }
 {}

@@ -143,7 +143,8 @@ fn long_left(m: i64, by: u32) -> i64
 
 pub fn shifted_left(size: Size, m: i64, n: i64) -> i64
     requires { IsInRange (size_kind size) m }
-    ensures number { result ≡ wrapped (size_kind size) (m *ℤ pos (2 ^ distance (size_kind size) n)) }
+    ensures number { result ≡
+        wrapped (size_kind size) (m *ℤ pos (2 ^ distance (size_kind size) n)) }
     ensures range { IsInRange (size_kind size) result }
 {
     match size {
@@ -181,7 +182,9 @@ fn long_zeros(m: i64, by: u32) -> i64
 /// Zeros are shifted in.
 pub fn shifted_right_unsigned(size: Size, m: i64, n: i64) -> i64
     requires { IsInRange (size_kind size) m }
-    ensures number { result ≡ wrapped (size_kind size) (pos (cast_unsigned (width_of (size_kind size)) m / 2 ^ distance (size_kind size) n)) }
+    ensures number { result ≡
+        wrapped (size_kind size)
+        (pos (cast_unsigned (width_of (size_kind size)) m / 2 ^ distance (size_kind size) n)) }
     ensures range { IsInRange (size_kind size) result }
 {
     match size {

@@ -20,14 +20,17 @@ abbrev pub MakesAlone : Tables → (ℕ → ℤ) → Stmt → (ℕ → ℤ) → 
 MakesAlone tables last p x [] = Unit {0}
 MakesAlone tables last p x (t ∷ ts) =
     ((o : Tick) × Ticks tables last p t.env x o)
-    × ((o : Tick) → Ticks tables last p t.env x o → (o.code ≡ t.code) × (o.emits ≡ t.emits) × MakesAlone tables last o.rest o.variables ts)
+    × ((o : Tick) → Ticks tables last p t.env x o →
+    (o.code ≡ t.code) × (o.emits ≡ t.emits) × MakesAlone tables last o.rest o.variables ts)
 
 -- from these variables, and with these last values of channels
-pub record ShowsFrom (tables : Tables) (last : ℕ → ℤ) (p : Stmt) (x : ℕ → ℤ) (ts : List Shown) : Type 0 where
+pub record ShowsFrom (tables : Tables) (last : ℕ → ℤ) (p : Stmt) (x : ℕ →
+    ℤ) (ts : List Shown) : Type 0 where
   pub ticks : MakesAlone tables last p x ts
 
 -- the statement makes this tick, and no other
-pub record OnlyTick (tables : Tables) (last : ℕ → ℤ) (p : Stmt) (env : Env) (x : ℕ → ℤ) (o : Tick) : Type 0 where
+pub record OnlyTick (tables : Tables) (last : ℕ → ℤ) (p : Stmt) (env : Env) (x : ℕ →
+    ℤ) (o : Tick) : Type 0 where
   pub ticks : Ticks tables last p env x o
   pub alone : (other : Tick) → Ticks tables last p env x other → other ≡ o
 
@@ -39,9 +42,12 @@ abbrev pub Shows : Tables → Stmt → List Shown → Type 0
 Shows tables p ts = ShowsFrom tables all_zero p all_zero ts
 
 -- the domain's legal ticks from its start show these rows, and there is no other log of as many ticks
-pub record OnlyLogs (tables : Tables) (inputs : Inputs) (p : Stmt) (rows : List (List (Option ℤ))) (rest : Stmt) (mark : Mark) : Type 0 where
+pub record OnlyLogs (tables : Tables) (inputs : Inputs) (p : Stmt) (rows : List (List (Option ℤ)))
+    (rest : Stmt) (mark : Mark) : Type 0 where
   pub logs : Logs tables inputs p rows rest mark
-  pub alone : (others : List (List (Option ℤ))) (q : Stmt) (m : Mark) → length others ≡ length rows → Logs tables inputs p others q m → (others ≡ rows) × (q ≡ rest) × (m ≡ mark)
+  pub alone : (others : List (List (Option ℤ))) (q : Stmt) (m : Mark) →
+      length others ≡ length rows → Logs tables inputs p others q m →
+      (others ≡ rows) × (q ≡ rest) × (m ≡ mark)
 
 abbrev pub absent : Status
 absent = record { present = false; value = pos 0 }

@@ -54,7 +54,8 @@ divisors_are_allowed Nothing = true
 divisors_are_allowed Pause = true
 divisors_are_allowed (Emit s e) = given_divisors e
 divisors_are_allowed (Assign x e) = has_divisors e
-divisors_are_allowed (If e p q) = has_divisors e && (divisors_are_allowed p && divisors_are_allowed q)
+divisors_are_allowed (If e p q) =
+    has_divisors e && (divisors_are_allowed p && divisors_are_allowed q)
 divisors_are_allowed (Present t p q) = divisors_are_allowed p && divisors_are_allowed q
 divisors_are_allowed (Seq p q) = divisors_are_allowed p && divisors_are_allowed q
 divisors_are_allowed (Loop p) = divisors_are_allowed p

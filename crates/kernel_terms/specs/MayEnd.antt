@@ -44,7 +44,8 @@ starting (Loop p) = record { ends = false; exits = (starting p).exits }
 starting (Par p q) = beside (starting p) (starting q)
 starting (Trap p) = within_trap (starting p)
 starting (Exit n) = exits_to n
-starting (Abort weak armed t p) = record { ends = armed || (starting p).ends; exits = (starting p).exits }
+starting (Abort weak armed t p) =
+    record { ends = armed || (starting p).ends; exits = (starting p).exits }
 starting (Suspend armed t p) = starting p
 starting (Local s v p) = starting p
 starting (Send c e) = never
@@ -89,9 +90,25 @@ resuming (Emit s e) = never
 resuming (Assign x e) = never
 resuming (If e p q) = either (resuming p) (resuming q)
 resuming (Present t p q) = either (resuming p) (resuming q)
-resuming (Seq p q) = record { ends = (resuming q).ends || ((resuming p).ends && (starting q).ends); exits = λ d. (resuming p).exits d || ((resuming q).exits d || ((resuming p).ends && (starting q).exits d)) }
-resuming (Loop p) = record { ends = false; exits = λ d. (resuming p).exits d || ((resuming p).ends && (starting p).exits d) }
-resuming (Par p q) = record { ends = (resumes p || resumes q) && (may_be_over (starting p) (resuming p) && may_be_over (starting q) (resuming q)); exits = λ d. (resuming p).exits d || (resuming q).exits d }
+resuming (Seq p q) =
+    record {
+      ends = (resuming q).ends ||
+          ((resuming p).ends && (starting q).ends);
+      exits = λ d. (resuming p).exits d ||
+          ((resuming q).exits d || ((resuming p).ends && (starting q).exits d));
+    }
+resuming (Loop p) =
+    record {
+      ends = false;
+      exits = λ d. (resuming p).exits d ||
+          ((resuming p).ends && (starting p).exits d);
+    }
+resuming (Par p q) =
+    record {
+      ends = (resumes p || resumes q) &&
+          (may_be_over (starting p) (resuming p) && may_be_over (starting q) (resuming q));
+      exits = λ d. (resuming p).exits d || (resuming q).exits d;
+    }
 resuming (Trap p) = within_trap (resuming p)
 resuming (Exit n) = never
 resuming (Abort weak armed t p) = record { ends = resumes p; exits = (resuming p).exits }

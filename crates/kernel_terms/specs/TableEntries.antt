@@ -46,7 +46,8 @@ value_kind info = unwrap_or info.kind kind.Boolean
 -- the numbers, from n on, of the entries of which this holds
 abbrev pub numbers_where : {X : Type 0} → (X → Bool) → ℕ → List X → List ℕ
 numbers_where is n [] = []
-numbers_where is n (x ∷ xs) = cond (is x) (n ∷ numbers_where is (suc n) xs) (numbers_where is (suc n) xs)
+numbers_where is n (x ∷ xs) =
+    cond (is x) (n ∷ numbers_where is (suc n) xs) (numbers_where is (suc n) xs)
 
 abbrev pub is_interface_of : ℕ → SignalInfo → Bool
 is_interface_of d info = (info.domain == d) && cond (is_local info.sort) false true

@@ -47,14 +47,17 @@ abbrev pub is_within_limits : Tables → ℕ → Bool
 is_within_limits t domains =
     nat_le domains most_domains
     && (nat_le (length t.channels) most_channels
-    && all_below (λ d. nat_le (length (signals_of t d)) most_signals && nat_le (length (variables_of t d)) most_variables) domains)
+    && all_below (λ d. nat_le (length (signals_of t d)) most_signals &&
+    nat_le (length (variables_of t d)) most_variables) domains)
 
 -- Tables: each entry names domains, those of a channel differ, and interface signals come before local
 -- ones.
 
 abbrev pub interface_comes_first : List SignalInfo → Bool
 interface_comes_first [] = true
-interface_comes_first (s ∷ ss) = cond (is_local s.sort) (list_all (λ (l : SignalInfo). is_local l.sort) ss) (interface_comes_first ss)
+interface_comes_first (s ∷ ss) =
+    cond (is_local s.sort) (list_all (λ (l : SignalInfo). is_local l.sort) ss)
+    (interface_comes_first ss)
 
 -- A combination fits its signal's kind: a pure signal has the default, and `boolean` has the bitwise ones.
 abbrev pub is_default : Combine → Bool
@@ -76,7 +79,8 @@ abbrev pub is_signal_entry : ℕ → SignalInfo → Bool
 is_signal_entry domains s = nat_lt s.domain domains && combines s.kind s.combine
 
 abbrev pub is_channel_entry : ℕ → ChannelInfo → Bool
-is_channel_entry domains c = nat_lt c.sender domains && (nat_lt c.receiver domains && not (c.sender == c.receiver))
+is_channel_entry domains c =
+    nat_lt c.sender domains && (nat_lt c.receiver domains && not (c.sender == c.receiver))
 
 abbrev pub is_variable_entry : ℕ → VariableInfo → Bool
 is_variable_entry domains x = nat_lt x.domain domains
@@ -162,11 +166,16 @@ is_of_kind (Some l) k = same_kind l k
 -- each node has the kind that its operator and its operands give it, and names what may be named
 abbrev pub fits_expression : Tables → Scope → Expression → Bool
 fits_expression t scope (Literal k n) = int_le (lowest k) n && int_le n (highest k)
-fits_expression t scope (Variable k x) = is_variable_of t scope.domain x && same_kind (variable_at t x).kind k
+fits_expression t scope (Variable k x) =
+    is_variable_of t scope.domain x && same_kind (variable_at t x).kind k
 fits_expression t scope (SignalValue k s) = can_use t scope s && is_of_kind (signal_at t s).kind k
-fits_expression t scope (ChannelValue k c) = is_receiver_of t scope.domain c && same_kind (channel_at t c).kind k
-fits_expression t scope (Unary k op e) = fits_expression t scope e && is_of_kind (result_kind1 op (kind_of e)) k
-fits_expression t scope (Binary k op e f) = fits_expression t scope e && (fits_expression t scope f && is_of_kind (result_kind2 op (kind_of e) (kind_of f)) k)
+fits_expression t scope (ChannelValue k c) =
+    is_receiver_of t scope.domain c && same_kind (channel_at t c).kind k
+fits_expression t scope (Unary k op e) =
+    fits_expression t scope e && is_of_kind (result_kind1 op (kind_of e)) k
+fits_expression t scope (Binary k op e f) =
+    fits_expression t scope e &&
+    (fits_expression t scope f && is_of_kind (result_kind2 op (kind_of e) (kind_of f)) k)
 fits_expression t scope (Cast k e) = fits_expression t scope e && is_castable (kind_of e) k
 
 -- an expression that is given to something of this kind
@@ -188,16 +197,20 @@ fits_test t scope (Either u v) = fits_test t scope u && fits_test t scope v
 
 -- a local signal of the domain
 abbrev pub is_local_of : Tables → ℕ → ℕ → Bool
-is_local_of t d s = nat_lt s (length t.signals) && (is_local (signal_at t s).sort && ((signal_at t s).domain == d))
+is_local_of t d s =
+    nat_lt s (length t.signals) && (is_local (signal_at t s).sort && ((signal_at t s).domain == d))
 
 -- the statement keeps these rules; sends and receives that wait or have completed stand in no program
 abbrev pub fits_statement : Tables → Scope → Stmt → Bool
 fits_statement t scope Nothing = true
 fits_statement t scope Pause = true
 fits_statement t scope (Emit s e) = can_emit t scope s && is_emission t scope (signal_at t s).kind e
-fits_statement t scope (Assign x e) = is_variable_of t scope.domain x && is_given t scope (variable_at t x).kind e
-fits_statement t scope (If e p q) = is_given t scope kind.Boolean e && (fits_statement t scope p && fits_statement t scope q)
-fits_statement t scope (Present u p q) = fits_test t scope u && (fits_statement t scope p && fits_statement t scope q)
+fits_statement t scope (Assign x e) =
+    is_variable_of t scope.domain x && is_given t scope (variable_at t x).kind e
+fits_statement t scope (If e p q) =
+    is_given t scope kind.Boolean e && (fits_statement t scope p && fits_statement t scope q)
+fits_statement t scope (Present u p q) =
+    fits_test t scope u && (fits_statement t scope p && fits_statement t scope q)
 fits_statement t scope (Seq p q) = fits_statement t scope p && fits_statement t scope q
 fits_statement t scope (Loop p) = fits_statement t scope p
 fits_statement t scope (Par p q) = fits_statement t scope p && fits_statement t scope q
@@ -205,8 +218,10 @@ fits_statement t scope (Trap p) = fits_statement t (record scope { traps = suc s
 fits_statement t scope (Exit d) = nat_lt d scope.traps && nat_lt d most_traps
 fits_statement t scope (Abort weak armed u p) = fits_test t scope u && fits_statement t scope p
 fits_statement t scope (Suspend armed u p) = fits_test t scope u && fits_statement t scope p
-fits_statement t scope (Local s v p) = is_local_of t scope.domain s && fits_statement t (record scope { locals = s ∷ scope.locals }) p
-fits_statement t scope (Send c e) = is_sender_of t scope.domain c && is_given t scope (channel_at t c).kind e
+fits_statement t scope (Local s v p) =
+    is_local_of t scope.domain s && fits_statement t (record scope { locals = s ∷ scope.locals }) p
+fits_statement t scope (Send c e) =
+    is_sender_of t scope.domain c && is_given t scope (channel_at t c).kind e
 fits_statement t scope (Receive c) = is_receiver_of t scope.domain c
 fits_statement t scope (SendWaits c v) = false
 fits_statement t scope (Sent c) = false
@@ -216,7 +231,9 @@ fits_statement t scope (Received c) = false
 -- of each domain, by number
 abbrev pub fit_statements : Tables → ℕ → List Stmt → Bool
 fit_statements t d [] = true
-fit_statements t d (p ∷ ps) = fits_statement t (record { domain = d; traps = 0; locals = [] }) p && fit_statements t (suc d) ps
+fit_statements t d (p ∷ ps) =
+    fits_statement t (record { domain = d; traps = 0; locals = [] }) p &&
+    fit_statements t (suc d) ps
 
 -- Each local signal is declared by one statement.
 
@@ -253,7 +270,8 @@ are_apart (n ∷ ns) = not (stands_in n ns) && are_apart ns
 abbrev pub declares_each_once : Tables → List Stmt → Bool
 declares_each_once t ps =
     are_apart (declared_by_all ps)
-    && list_all (λ s. stands_in s (declared_by_all ps)) (numbers_where (λ (s : SignalInfo). is_local s.sort) 0 t.signals)
+    && list_all (λ s. stands_in s (declared_by_all ps))
+    (numbers_where (λ (s : SignalInfo). is_local s.sort) 0 t.signals)
 
 -- the tables and the terms of the domains keep all of this
 abbrev pub is_well_formed : Tables → List Term → Bool

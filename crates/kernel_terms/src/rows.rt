@@ -25,12 +25,14 @@ ghost use Rattle.kernel_terms.specs.Statements.{Seq, Loop, Par, Trap, Exit, Abor
 pub fn parts_nest_to_the_right()
     ensures none { (t : Term) → t.form ≡ form.Seq [] → statement t ≡ Nothing }
     ensures one { (t p : Term) → t.form ≡ form.Seq (p ∷ []) → statement t ≡ statement p }
-    ensures two { (t p q : Term) → t.form ≡ form.Seq (p ∷ q ∷ []) → statement t ≡ Seq (statement p) (statement q) }
+    ensures two { (t p q : Term) → t.form ≡ form.Seq (p ∷ q ∷ []) →
+        statement t ≡ Seq (statement p) (statement q) }
     ensures four { (t p q r u : Term) → t.form ≡ form.Seq (p ∷ q ∷ r ∷ u ∷ [])
         → statement t ≡ Seq (statement p) (Seq (statement q) (Seq (statement r) (statement u))) }
     ensures none_beside { (t : Term) → t.form ≡ form.Par [] → statement t ≡ Nothing }
     ensures one_beside { (t p : Term) → t.form ≡ form.Par (p ∷ []) → statement t ≡ statement p }
-    ensures two_beside { (t p q : Term) → t.form ≡ form.Par (p ∷ q ∷ []) → statement t ≡ Par (statement p) (statement q) }
+    ensures two_beside { (t p q : Term) → t.form ≡ form.Par (p ∷ q ∷ []) →
+        statement t ≡ Par (statement p) (statement q) }
     ensures four_beside { (t p q r u : Term) → t.form ≡ form.Par (p ∷ q ∷ r ∷ u ∷ [])
         → statement t ≡ Par (statement p) (Par (statement q) (Par (statement r) (statement u))) }
 {}
@@ -48,7 +50,8 @@ pub fn bodies_begin_anew()
         → statement t ≡ Abort true true (test a) (statement p) }
     ensures suspend { (t p : Term) (a : SigTest) → t.form ≡ form.Suspend a p
         → statement t ≡ Suspend false (test a) (statement p) }
-    ensures local { (t p : Term) (s : ℕ) → t.form ≡ form.Local s p → statement t ≡ Local s (pos 0) (statement p) }
+    ensures local { (t p : Term) (s : ℕ) → t.form ≡ form.Local s p →
+        statement t ≡ Local s (pos 0) (statement p) }
 {}
 
 /// Each other form with parts stands for the same form on the statements of its parts.
@@ -68,19 +71,26 @@ pub fn forms_without_parts_stay()
     ensures emit { (t : Term) (s : ℕ) → t.form ≡ plain.Emit s None → statement t ≡ Emit s None }
     ensures emit_value { (t : Term) (s : ℕ) (e : Expr) → t.form ≡ plain.Emit s (Some e)
         → statement t ≡ Emit s (Some (expression e)) }
-    ensures assign { (t : Term) (x : ℕ) (e : Expr) → t.form ≡ plain.Assign x e → statement t ≡ Assign x (expression e) }
+    ensures assign { (t : Term) (x : ℕ) (e : Expr) → t.form ≡ plain.Assign x e →
+        statement t ≡ Assign x (expression e) }
     ensures exit { (t : Term) (d : ℕ) → t.form ≡ plain.Exit d → statement t ≡ Exit d }
-    ensures send { (t : Term) (c : ℕ) (e : Expr) → t.form ≡ plain.Send c e → statement t ≡ Send c (expression e) }
+    ensures send { (t : Term) (c : ℕ) (e : Expr) → t.form ≡ plain.Send c e →
+        statement t ≡ Send c (expression e) }
     ensures receive { (t : Term) (c : ℕ) → t.form ≡ plain.Receive c → statement t ≡ Receive c }
 {}
 
 /// Each node of an expression stands for the same form at its own kind, and its operands for theirs.
 pub fn nodes_keep_their_kinds()
-    ensures literal { (e : Expr) (n : ℤ) → e.form ≡ node.Literal n → expression e ≡ Literal e.kind n }
-    ensures variable { (e : Expr) (x : ℕ) → e.form ≡ node.Variable x → expression e ≡ Variable e.kind x }
-    ensures signal { (e : Expr) (s : ℕ) → e.form ≡ node.Signal s → expression e ≡ SignalValue e.kind s }
-    ensures channel { (e : Expr) (c : ℕ) → e.form ≡ node.Channel c → expression e ≡ ChannelValue e.kind c }
-    ensures unary { (e f : Expr) (o : Op1) → e.form ≡ tree.Unary o f → expression e ≡ Unary e.kind o (expression f) }
+    ensures literal { (e : Expr) (n : ℤ) → e.form ≡ node.Literal n →
+        expression e ≡ Literal e.kind n }
+    ensures variable { (e : Expr) (x : ℕ) → e.form ≡ node.Variable x →
+        expression e ≡ Variable e.kind x }
+    ensures signal { (e : Expr) (s : ℕ) → e.form ≡ node.Signal s →
+        expression e ≡ SignalValue e.kind s }
+    ensures channel { (e : Expr) (c : ℕ) → e.form ≡ node.Channel c →
+        expression e ≡ ChannelValue e.kind c }
+    ensures unary { (e f : Expr) (o : Op1) → e.form ≡ tree.Unary o f →
+        expression e ≡ Unary e.kind o (expression f) }
     ensures binary { (e f g : Expr) (o : Op2) → e.form ≡ tree.Binary o f g
         → expression e ≡ Binary e.kind o (expression f) (expression g) }
     ensures cast { (e f : Expr) → e.form ≡ tree.Cast f → expression e ≡ Cast e.kind (expression f) }
@@ -103,11 +113,16 @@ pub fn divisors_are_literals()
     ensures truth { is_divisor (Literal kind.Boolean (pos 1)) ≡ false }
     ensures minus { is_divisor (Unary kind.Int op1.Minus (Literal kind.Int (pos 5))) ≡ true }
     ensures minus_zero { is_divisor (Unary kind.Int op1.Minus (Literal kind.Int (pos 0))) ≡ false }
-    ensures minus_character { is_divisor (Unary kind.Int op1.Minus (Literal kind.Char (pos 97))) ≡ false }
+    ensures minus_character { is_divisor (Unary kind.Int op1.Minus (Literal kind.Char (pos 97))) ≡
+        false }
     ensures plus { is_divisor (Unary kind.Int op1.Plus (Literal kind.Int (pos 5))) ≡ false }
     ensures cast { is_divisor (Cast kind.Int (Literal kind.Int (pos 5))) ≡ false }
-    ensures variable { has_divisors (Binary kind.Int op2.Div (Variable kind.Int 0) (Variable kind.Int 1)) ≡ false }
-    ensures rest { has_divisors (Binary kind.Int op2.Rem (Variable kind.Int 0) (Variable kind.Int 1)) ≡ false }
-    ensures sum { has_divisors (Binary kind.Int op2.Add (Variable kind.Int 0) (Variable kind.Int 1)) ≡ true }
-    ensures below { has_divisors (Cast kind.Int (Binary kind.Int op2.Div (Variable kind.Int 0) (Literal kind.Int (pos 0)))) ≡ false }
+    ensures variable { has_divisors (Binary kind.Int op2.Div (Variable kind.Int 0)
+        (Variable kind.Int 1)) ≡ false }
+    ensures rest { has_divisors (Binary kind.Int op2.Rem (Variable kind.Int 0)
+        (Variable kind.Int 1)) ≡ false }
+    ensures sum { has_divisors (Binary kind.Int op2.Add (Variable kind.Int 0) (Variable kind.Int 1))
+        ≡ true }
+    ensures below { has_divisors (Cast kind.Int
+        (Binary kind.Int op2.Div (Variable kind.Int 0) (Literal kind.Int (pos 0)))) ≡ false }
 {}

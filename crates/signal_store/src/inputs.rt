@@ -41,7 +41,8 @@ impl Inputs {
     /// Hands in a number for the signal at the tick. The answer is false, and nothing changes, exactly
     /// where a number is there.
     pub fn add(&mut self, signal: u32, tick: u32, n: i64) -> Result<bool, NoMemory>
-        ensures ok { IfOk result (λ added. MatchBool added (IsAdded self.old self.new signal tick n) (IsRefused self.old self.new signal tick)) }
+        ensures ok { IfOk result (λ added. MatchBool added (IsAdded self.old self.new signal tick n)
+            (IsRefused self.old self.new signal tick)) }
         ensures err { OnErr result (self.new ≡ self.old) }
     {
         if self.at(signal, tick).is_some() {

@@ -30,10 +30,12 @@ AllFit t a (term ∷ terms) = Fits t a term × AllFit t a terms
 -- the term is built, and keeps the rules wherever the statement fits, which declares nothing
 pub record IsTermOf (s : TypedStmt) (term : Term) : Type 0 where
   pub built : IsBuilt term
-  pub fits : (t : Tables) (a : Around) → (fits_stmt t (kind_rules t) s a).fits ≡ true → Fits t a term
+  pub fits : (t : Tables) (a : Around) → (fits_stmt t (kind_rules t) s a).fits ≡ true →
+      Fits t a term
   pub around : (t : Tables) (a : Around) → (fits_stmt t (kind_rules t) s a).around ≡ a
 
 -- the same of a block
 pub record IsTermOfBlock (b : TypedBlock) (term : Term) : Type 0 where
   pub built : IsBuilt term
-  pub fits : (t : Tables) (a : Around) → (fits_block t (kind_rules t) b a).fits ≡ true → Fits t a term
+  pub fits : (t : Tables) (a : Around) → (fits_block t (kind_rules t) b a).fits ≡ true →
+      Fits t a term

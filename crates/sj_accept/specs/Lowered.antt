@@ -24,15 +24,17 @@ with_all xs None = None
 with_all xs (Some ys) = Some (xs ++ ys)
 
 -- where statements fit, the terms of those before the rest do, and the rest fits
-pub record FitSoFar (t : Tables) (a : Around) (rest : List TypedStmt) (terms : List Term) : Type 0 where
-  pub terms_fit : AllFit t a terms
-  pub rest_fits : stmts_fit (map (fits_stmt t (kind_rules t)) rest) a ≡ true
+pub record FitSoFar (t : Tables) (a : Around) (rest : List TypedStmt) (terms : List Term) : Type 0
+  where
+    pub terms_fit : AllFit t a terms
+    pub rest_fits : stmts_fit (map (fits_stmt t (kind_rules t)) rest) a ≡ true
 
 -- the terms of the statements before the rest
 pub record StatementsReach (all rest : List TypedStmt) (terms : List Term) : Type 0 where
   pub whole : all_some (map stmt_term all) ≡ with_all terms (all_some (map stmt_term rest))
   pub built : AreBuilt terms
-  pub fit : (t : Tables) (a : Around) → stmts_fit (map (fits_stmt t (kind_rules t)) all) a ≡ true → FitSoFar t a rest terms
+  pub fit : (t : Tables) (a : Around) → stmts_fit (map (fits_stmt t (kind_rules t)) all) a ≡ true →
+      FitSoFar t a rest terms
 
 abbrev pub AreTerms : List TypedBlock → List Term → Type 0
 AreTerms [] [] = Unit {0}

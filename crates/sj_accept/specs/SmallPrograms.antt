@@ -11,7 +11,8 @@ use Rattle.sj_accept.specs.definitions.Lowering.{term_at, block_of, int_expressi
 use Rattle.sj_accept.specs.definitions.Programs.{LoweredProgram}
 
 abbrev pub output : List ℕ → ℕ → SignalInfo
-output name domain = record { name = name; domain = domain; sort = Output; kind = None; combine = Max }
+output name domain =
+    record { name = name; domain = domain; sort = Output; kind = None; combine = Max }
 
 abbrev pub outputs : List SignalInfo → Tables
 outputs signals = record { signals = signals; channels = []; variables = [] }
@@ -24,16 +25,24 @@ empty = record { tables = outputs []; terms = block_of 18 [] ∷ [] }
 abbrev pub blink : LoweredProgram
 blink = record {
   tables = outputs (output (codes "A") 0 ∷ []);
-  terms = block_of 34 (term_at 35 (form.Emit 0 None) ∷ term_at 42 form.Pause ∷ term_at 48 (form.Emit 0 None) ∷ []) ∷ [];
+  terms =
+      block_of 34 (term_at 35 (form.Emit 0 None) ∷ term_at 42 form.Pause ∷
+      term_at 48 (form.Emit 0 None) ∷ []) ∷ [];
 }
 
 -- `system{interface{output signal A;output signal B;}{while(true){emit A;pause;emit B;}}}`
 
 abbrev pub body : Term
-body = block_of 62 (term_at 63 (form.Emit 0 None) ∷ term_at 70 form.Pause ∷ term_at 76 (form.Emit 1 None) ∷ [])
+body =
+    block_of 62 (term_at 63 (form.Emit 0 None) ∷ term_at 70 form.Pause ∷
+    term_at 76 (form.Emit 1 None) ∷ [])
 
 abbrev pub looping : LoweredProgram
-looping = record { tables = outputs (output (codes "A") 0 ∷ output (codes "B") 0 ∷ []); terms = block_of 50 (term_at 51 (form.Loop body) ∷ []) ∷ [] }
+looping =
+    record {
+      tables = outputs (output (codes "A") 0 ∷ output (codes "B") 0 ∷ []);
+      terms = block_of 50 (term_at 51 (form.Loop body) ∷ []) ∷ [];
+    }
 
 -- `system{interface{output signal D;output signal B;int channel C;}{send C(5); emit D;}><{receive C; emit B;}}`
 
@@ -48,7 +57,8 @@ rendezvous = record {
     variables = [];
   };
   terms =
-      block_of 64 (term_at 65 (form.Send 0 (int_expression (pos 5))) ∷ term_at 76 (form.Emit 0 None) ∷ []) ∷
+      block_of 64 (term_at 65 (form.Send 0 (int_expression (pos 5))) ∷
+      term_at 76 (form.Emit 0 None) ∷ []) ∷
       second ∷ [];
 }
 

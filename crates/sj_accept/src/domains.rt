@@ -15,7 +15,8 @@ pub fn domain_terms(
     alloc: Global,
     domains: &[Block<u32, Expr>],
 ) -> Result<Option<Vec<Term>>, NoMemory>
-    ensures { IfOk result (λ o. MatchOption o (all_some (map block_term domains.now) ≡ None) (λ v. AreTermsOf domains.now v.items)) }
+    ensures { IfOk result (λ o. MatchOption o (all_some (map block_term domains.now) ≡
+        None) (λ v. AreTermsOf domains.now v.items)) }
 {
     let mut terms = Vec::new(alloc);
     for i in 0..domains.len() {

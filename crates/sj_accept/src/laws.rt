@@ -28,7 +28,8 @@ pub fn trees_are_whole()
 
 /// A source is the source of one program at most.
 pub fn sources_are_one_program()
-    ensures { (source : List ℕ) (p q : LoweredProgram) → IsSourceOf source p → IsSourceOf source q → p ≡ q }
+    ensures { (source : List ℕ) (p q : LoweredProgram) → IsSourceOf source p → IsSourceOf source q →
+        p ≡ q }
 {
     sources_are_one_tree();
 }
@@ -43,7 +44,8 @@ pub fn accepted_sources_are_not_refused()
 
 /// A source is refused for one reason at most, at one place.
 pub fn sources_have_one_refusal()
-    ensures { (source : List ℕ) (r s : Refusal) → IsRefusedFor source r → IsRefusedFor source s → r ≡ s }
+    ensures { (source : List ℕ) (r s : Refusal) → IsRefusedFor source r → IsRefusedFor source s →
+        r ≡ s }
 {
     sources_are_one_tree();
     sources_have_one_reading();

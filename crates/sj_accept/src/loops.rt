@@ -15,8 +15,10 @@ use tick_tree::{
 // The loops of parts one after another, or beside each other, are those of the parts.
 #[tactic(auto, using(crate::proofs::LoopLemmas::parts_of_statements))]
 fn loops_of_parts(parts: &[Term])
-    ensures in_turn { LoopsWait (sequence (map statement parts.now)) ↔ AllLoopsWait (map statement parts.now) }
-    ensures beside { LoopsWait (parallel (map statement parts.now)) ↔ AllLoopsWait (map statement parts.now) }
+    ensures in_turn { LoopsWait (sequence (map statement parts.now)) ↔ AllLoopsWait
+        (map statement parts.now) }
+    ensures beside { LoopsWait (parallel (map statement parts.now)) ↔ AllLoopsWait
+        (map statement parts.now) }
 {}
 
 /// Whether no loop's body may end in its starting tick.

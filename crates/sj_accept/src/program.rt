@@ -13,7 +13,8 @@ use std::alloc::Global;
 /// The system of a tree with kinds, where its tables and its forms are built.
 pub fn system_of(alloc: Global, typed: Typed) -> Result<Option<System>, NoMemory>
     requires { IsSound typed.tables typed.tree }
-    ensures { IfOk result (λ o. MatchOption o (lowered typed.tables typed.tree ≡ None) (IsSystemOf typed.tables typed.tree)) }
+    ensures { IfOk result (λ o. MatchOption o (lowered typed.tables typed.tree ≡
+        None) (IsSystemOf typed.tables typed.tree)) }
 {
     if !tables_are_built(&typed.tables) {
         return Ok(None);

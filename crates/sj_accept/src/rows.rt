@@ -29,7 +29,8 @@ pub fn small_refusals()
 /// The programs of accepted sources, whose terms have the places of their statements.
 pub fn small_sources()
     ensures empty { IsSourceOf (codes "system{interface{}{}}") empty }
-    ensures blink { IsSourceOf (codes "system{interface{output signal A;}{emit A;pause;emit A;}}") blink }
+    ensures blink { IsSourceOf (codes "system{interface{output signal A;}{emit A;pause;emit A;}}")
+        blink }
     ensures looping { IsSourceOf (codes "system{interface{output signal A;output signal B;}{while(true){emit A;pause;emit B;}}}") looping }
     ensures rendezvous { IsSourceOf (codes "system{interface{output signal D;output signal B;int channel C;}{send C(5); emit D;}><{receive C; emit B;}}") rendezvous }
 {}
@@ -45,7 +46,8 @@ pub fn deep_sources()
 
 /// Programs of the grammar with a name that isn't declared, and with two signals of one name.
 pub fn misnamed_sources()
-    ensures no_such_signal { IsRefusedFor (codes "system{interface{}{emit A;}}") (refusal.Names (failure_at fault.Unknown 24)) }
+    ensures no_such_signal { IsRefusedFor (codes "system{interface{}{emit A;}}")
+        (refusal.Names (failure_at fault.Unknown 24)) }
     ensures one_name_twice { IsRefusedFor (codes "system{interface{output signal A;output signal A;}{}}") (refusal.Names (failure_at fault.Twice 47)) }
 {
     walks_tell_the_first_bad_token();

@@ -37,7 +37,8 @@ fn lex_error(error: LexError) -> AcceptError
 }
 
 fn parse_error(error: ParseError) -> AcceptError
-    ensures { (source : List ℕ) (tokens : List Token) → AreTokens source tokens → IsNoProgram source tokens error → IsWhyNot source result }
+    ensures { (source : List ℕ) (tokens : List Token) → AreTokens source tokens →
+        IsNoProgram source tokens error → IsWhyNot source result }
 {
     match error {
         ParseError::Syntax(at) => AcceptError::Refused(Refusal::Syntax(at)),
@@ -47,7 +48,8 @@ fn parse_error(error: ParseError) -> AcceptError
 }
 
 fn name_error(error: BindError) -> AcceptError
-    ensures { (source : List ℕ) (tree : SourceTree) → IsParsed source tree → IsWhyUnbound tree error → IsWhyNot source result }
+    ensures { (source : List ℕ) (tree : SourceTree) → IsParsed source tree →
+        IsWhyUnbound tree error → IsWhyNot source result }
 {
     match error {
         BindError::Failed(failure) => AcceptError::Refused(Refusal::Names(failure)),
@@ -56,7 +58,8 @@ fn name_error(error: BindError) -> AcceptError
 }
 
 fn kind_error(error: TypeError) -> AcceptError
-    ensures { (source : List ℕ) (tree : SourceTree) (bound : BoundTree) → IsParsed source tree → IsBinding tree bound → IsWhyUntyped bound error → IsWhyNot source result }
+    ensures { (source : List ℕ) (tree : SourceTree) (bound : BoundTree) → IsParsed source tree →
+        IsBinding tree bound → IsWhyUntyped bound error → IsWhyNot source result }
 {
     match error {
         TypeError::Failed(failure) => AcceptError::Refused(Refusal::Kinds(failure)),

@@ -26,7 +26,9 @@ edge_behind_sign = tokens_of (one ∷ Mark mark.Minus ∷ Mark mark.Minus ∷ Lo
 
 -- `(int) -A * #B`
 abbrev pub cast_of_product : List Token
-cast_of_product = tokens_of (Mark mark.OpenParen ∷ Reserved word.Int ∷ Mark mark.CloseParen ∷ Mark mark.Minus ∷ Name ∷ Mark mark.Star ∷ Mark mark.Hash ∷ Name ∷ [])
+cast_of_product =
+    tokens_of (Mark mark.OpenParen ∷ Reserved word.Int ∷ Mark mark.CloseParen ∷ Mark mark.Minus ∷
+    Name ∷ Mark mark.Star ∷ Mark mark.Hash ∷ Name ∷ [])
 
 -- `(int` and a name
 abbrev pub kind_and_name : List Token
@@ -38,17 +40,22 @@ half_sum = tokens_of (one ∷ Mark mark.Plus ∷ [])
 
 -- `!A && (B || C)`
 abbrev pub three_signals : List Token
-three_signals = tokens_of (Mark mark.Bang ∷ Name ∷ Mark mark.Both ∷ Mark mark.OpenParen ∷ Name ∷ Mark mark.Either ∷ Name ∷ Mark mark.CloseParen ∷ [])
+three_signals =
+    tokens_of (Mark mark.Bang ∷ Name ∷ Mark mark.Both ∷ Mark mark.OpenParen ∷ Name ∷
+    Mark mark.Either ∷ Name ∷ Mark mark.CloseParen ∷ [])
 
 -- a program of this interface and these domains
 abbrev pub program_of : List Class → List Class → List Token
 program_of ports domains =
-    tokens_of (Reserved word.System ∷ Mark mark.OpenBrace ∷ Reserved word.Interface ∷ Mark mark.OpenBrace ∷ (ports ++ Mark mark.CloseBrace ∷ (domains ++ Mark mark.CloseBrace ∷ [])))
+    tokens_of (Reserved word.System ∷ Mark mark.OpenBrace ∷ Reserved word.Interface ∷
+    Mark mark.OpenBrace ∷
+    (ports ++ Mark mark.CloseBrace ∷ (domains ++ Mark mark.CloseBrace ∷ [])))
 
 abbrev pub ports : List Class
 ports =
     Reserved word.Input ∷ Reserved word.Signal ∷ Name ∷ Mark mark.Semicolon
-    ∷ Reserved word.Output ∷ Reserved word.Int ∷ Reserved word.Signal ∷ Name ∷ Reserved word.Combine ∷ Reserved word.Max ∷ Mark mark.Semicolon
+    ∷ Reserved word.Output ∷ Reserved word.Int ∷ Reserved word.Signal ∷ Name ∷
+    Reserved word.Combine ∷ Reserved word.Max ∷ Mark mark.Semicolon
     ∷ Reserved word.Int ∷ Reserved word.Channel ∷ Name ∷ Mark mark.Semicolon ∷ []
 
 abbrev pub empty_block : List Class
@@ -60,14 +67,19 @@ two_domains = empty_block ++ Mark mark.Beside ∷ empty_block
 -- `{ weak abort (immediate A) {} || {} }`, where no block stands before `||`
 abbrev pub abort_beside : List Class
 abort_beside =
-    Mark mark.OpenBrace ∷ Reserved word.Weak ∷ Reserved word.Abort ∷ Mark mark.OpenParen ∷ Reserved word.Immediate ∷ Name ∷ Mark mark.CloseParen
+    Mark mark.OpenBrace ∷ Reserved word.Weak ∷ Reserved word.Abort ∷ Mark mark.OpenParen ∷
+    Reserved word.Immediate ∷ Name ∷ Mark mark.CloseParen
     ∷ (empty_block ++ Mark mark.Either ∷ (empty_block ++ Mark mark.CloseBrace ∷ []))
 
 -- `{ {} || {} int x = 1; int signal A; x += 1; loop {} each (A); if (true) {} else {} }`
 abbrev pub statements : List Class
 statements =
     Mark mark.OpenBrace ∷ (empty_block ++ Mark mark.Either ∷ (empty_block
-    ++ Reserved word.Int ∷ Name ∷ Mark mark.Assign ∷ one ∷ Mark mark.Semicolon ∷ Reserved word.Int ∷ Reserved word.Signal ∷ Name ∷ Mark mark.Semicolon
+    ++ Reserved word.Int ∷ Name ∷ Mark mark.Assign ∷ one ∷ Mark mark.Semicolon ∷ Reserved word.Int ∷
+    Reserved word.Signal ∷ Name ∷ Mark mark.Semicolon
     ∷ Name ∷ Mark mark.PlusAssign ∷ one ∷ Mark mark.Semicolon
-    ∷ Reserved word.Loop ∷ (empty_block ++ Reserved word.Each ∷ Mark mark.OpenParen ∷ Name ∷ Mark mark.CloseParen ∷ Mark mark.Semicolon
-    ∷ Reserved word.If ∷ Mark mark.OpenParen ∷ Reserved word.True ∷ Mark mark.CloseParen ∷ (empty_block ++ Reserved word.Else ∷ (empty_block ++ Mark mark.CloseBrace ∷ [])))))
+    ∷ Reserved word.Loop ∷
+    (empty_block ++
+    Reserved word.Each ∷ Mark mark.OpenParen ∷ Name ∷ Mark mark.CloseParen ∷ Mark mark.Semicolon
+    ∷ Reserved word.If ∷ Mark mark.OpenParen ∷ Reserved word.True ∷ Mark mark.CloseParen ∷
+    (empty_block ++ Reserved word.Else ∷ (empty_block ++ Mark mark.CloseBrace ∷ [])))))

@@ -24,9 +24,11 @@ pub trait Files {
         ensures known { known self.new ≡ known self.old }
         ensures told { (other : List ℕ) → told self.new other ≡ told self.old other }
         ensures bound { IfOk result (λ n. n ≤ length buf.new) }
-        ensures bytes { IfOk result (λ n. IfSome (told self.old name.now) (λ all. ReadsAt all at n buf.new)) }
+        ensures bytes { IfOk result (λ n. IfSome (told self.old name.now)
+            (λ all. ReadsAt all at n buf.new)) }
         ensures later { (other : List ℕ) → faults self.old other ≤ faults self.new other }
-        ensures apart { (other : List ℕ) → CountsApart (known self.old) name.now other → faults self.new other ≡ faults self.old other }
+        ensures apart { (other : List ℕ) → CountsApart (known self.old) name.now other →
+            faults self.new other ≡ faults self.old other }
         ensures cause { OnErr result (Rose (faults self.old name.now) (faults self.new name.now)) }
         ensures counts_stay { OnOk result (CountsStay (faults self.old) (faults self.new)) };
 }

@@ -48,7 +48,8 @@ impl Gathered {
     #[tactic(auto, using(crate::proofs::GatheringLemmas::gathers_nothing))]
     fn make_room<K: Sink>(&mut self, out: &mut K) -> Result<(), WriteError>
         ensures room { OnOk result (self.new.to < 4096) }
-        ensures hands { Gathers (K.taken out.old) (K.taken out.new) (waiting self.old) (waiting self.new) [] }
+        ensures hands { Gathers (K.taken out.old) (K.taken out.new) (waiting self.old)
+            (waiting self.new) [] }
         ensures cause { OnErr result (Rose (K.faults out.old) (K.faults out.new)) }
         ensures later { K.faults out.old ≤ K.faults out.new }
     {
@@ -63,8 +64,10 @@ impl Gathered {
     /// After a `Fault` a prefix of the bytes was put, and no byte is lost.
     #[tactic(auto, using(crate::proofs::GatheringLemmas::gathers_fitting))]
     pub fn put<K: Sink>(&mut self, out: &mut K, bytes: &[u8]) -> Result<(), WriteError>
-        ensures ok { OnOk result (Gathers (K.taken out.old) (K.taken out.new) (waiting self.old) (waiting self.new) bytes.now) }
-        ensures puts_prefix { OnErr result (GathersPrefix (K.taken out.old) (K.taken out.new) (waiting self.old) (waiting self.new) bytes.now) }
+        ensures ok { OnOk result (Gathers (K.taken out.old) (K.taken out.new) (waiting self.old)
+            (waiting self.new) bytes.now) }
+        ensures puts_prefix { OnErr result (GathersPrefix (K.taken out.old) (K.taken out.new)
+            (waiting self.old) (waiting self.new) bytes.now) }
         ensures cause { OnErr result (Rose (K.faults out.old) (K.faults out.new)) }
         ensures later { K.faults out.old ≤ K.faults out.new }
     {
@@ -78,8 +81,10 @@ impl Gathered {
     // Puts the bytes, as many at a time as there is room for.
     #[tactic(auto, using(crate::proofs::GatheringLemmas::put_steps))]
     fn put_parts<K: Sink>(&mut self, out: &mut K, bytes: &[u8]) -> Result<(), WriteError>
-        ensures ok { OnOk result (Gathers (K.taken out.old) (K.taken out.new) (waiting self.old) (waiting self.new) bytes.now) }
-        ensures puts_prefix { OnErr result (GathersPrefix (K.taken out.old) (K.taken out.new) (waiting self.old) (waiting self.new) bytes.now) }
+        ensures ok { OnOk result (Gathers (K.taken out.old) (K.taken out.new) (waiting self.old)
+            (waiting self.new) bytes.now) }
+        ensures puts_prefix { OnErr result (GathersPrefix (K.taken out.old) (K.taken out.new)
+            (waiting self.old) (waiting self.new) bytes.now) }
         ensures cause { OnErr result (Rose (K.faults out.old) (K.faults out.new)) }
         ensures later { K.faults out.old ≤ K.faults out.new }
     {
@@ -98,7 +103,8 @@ impl Gathered {
     pub fn flush<K: Sink>(&mut self, out: &mut K) -> Result<(), WriteError>
         ensures room { OnOk result (self.new.to ≡ 0) }
         ensures empty { OnOk result (waiting self.new ≡ []) }
-        ensures hands { Gathers (K.taken out.old) (K.taken out.new) (waiting self.old) (waiting self.new) [] }
+        ensures hands { Gathers (K.taken out.old) (K.taken out.new) (waiting self.old)
+            (waiting self.new) [] }
         ensures cause { OnErr result (Rose (K.faults out.old) (K.faults out.new)) }
         ensures later { K.faults out.old ≤ K.faults out.new }
     {

@@ -78,7 +78,8 @@ impl<'a, R: std::rt::Files> HostFiles<'a, R> {
     // Raises the count of the name.
     fn failure(&mut self, name: &str) -> Failed
         ensures known { host_known self.new ≡ host_known self.old }
-        ensures raises { Raises (host_known self.old) (host_faults self.old) (host_faults self.new) name.now }
+        ensures raises { Raises (host_known self.old) (host_faults self.old) (host_faults self.new)
+            name.now }
     {
         match entry_at(&self.names, name) {
             Some(place) => raise(&mut self.names, place),

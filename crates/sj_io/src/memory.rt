@@ -89,7 +89,8 @@ impl MemFiles {
         requires { place < vec_len files.old }
         ensures counts { IsRaised (file_names files.old.items) (file_names files.new.items)
             (file_counts files.old.items) (file_counts files.new.items) place }
-        ensures bytes { (name : List ℕ) → bytes_of files.new.items name ≡ bytes_of files.old.items name }
+        ensures bytes { (name : List ℕ) →
+            bytes_of files.new.items name ≡ bytes_of files.old.items name }
     {
         let file = &mut files[place];
         file.faults = file.faults.saturating_add(1);
@@ -99,7 +100,8 @@ impl MemFiles {
     fn failure(&mut self, name: &str) -> Failed
         ensures known { mem_known self.new ≡ mem_known self.old }
         ensures told { (other : List ℕ) → mem_told self.new other ≡ mem_told self.old other }
-        ensures raises { Raises (mem_known self.old) (mem_faults self.old) (mem_faults self.new) name.now }
+        ensures raises { Raises (mem_known self.old) (mem_faults self.old) (mem_faults self.new)
+            name.now }
         ensures rest { IsSetUp self.new self.old.piece self.old.fail.items self.old.calls }
     {
         match file_at(&self.files, name) {
@@ -126,15 +128,19 @@ impl Files for MemFiles {
         ensures known { mem_known self.new ≡ mem_known self.old }
         ensures told { (other : List ℕ) → mem_told self.new other ≡ mem_told self.old other }
         ensures bound { IfOk result (λ n. n ≤ length buf.new) }
-        ensures bytes { IfOk result (λ n. IfSome (mem_told self.old name.now) (λ all. ReadsAt all at n buf.new)) }
+        ensures bytes { IfOk result (λ n. IfSome (mem_told self.old name.now)
+            (λ all. ReadsAt all at n buf.new)) }
         ensures later { (other : List ℕ) → mem_faults self.old other ≤ mem_faults self.new other }
-        ensures apart { (other : List ℕ) → CountsApart (mem_known self.old) name.now other → mem_faults self.new other ≡ mem_faults self.old other }
-        ensures cause { OnErr result (Rose (mem_faults self.old name.now) (mem_faults self.new name.now)) }
+        ensures apart { (other : List ℕ) → CountsApart (mem_known self.old) name.now other →
+            mem_faults self.new other ≡ mem_faults self.old other }
+        ensures cause { OnErr result (Rose (mem_faults self.old name.now)
+            (mem_faults self.new name.now)) }
         ensures counts_stay { OnOk result (CountsStay (mem_faults self.old) (mem_faults self.new)) }
 
         // It fails exactly where it is told to, and else gives as much as it may.
         ensures exact { is_err result ≡ mem_fails self.old name.now }
-        ensures count { IfOk result (λ n. IfSome (mem_told self.old name.now) (λ all. n ≡ min (min (length buf.new) (mem_piece self.old)) (length all - at))) }
+        ensures count { IfOk result (λ n. IfSome (mem_told self.old name.now) (λ all. n ≡
+            min (min (length buf.new) (mem_piece self.old)) (length all - at))) }
         ensures calls { CallsOn self.old self.new }
     {
         self.calls = self.calls.saturating_add(1);
@@ -198,13 +204,15 @@ impl Sink for MemSink {
     fn write(&mut self, buf: &[u8]) -> Result<usize, Failed>
         ensures bound { IfOk result (λ n. n ≤ length buf.now) }
         ensures moves { IfOk result (λ n. 1 ≤ length buf.now → 1 ≤ n) }
-        ensures takes { Takes (Some (sink_bytes self.old)) (Some (sink_bytes self.new)) result buf.now }
+        ensures takes { Takes (Some (sink_bytes self.old)) (Some (sink_bytes self.new)) result
+            buf.now }
         ensures later { sink_faults self.old ≤ sink_faults self.new }
         ensures cause { OnErr result (Rose (sink_faults self.old) (sink_faults self.new)) }
 
         // It fails exactly where it is told to, and else takes as much as it may.
         ensures exact { is_err result ≡ sink_fails self.old (length buf.now) }
-        ensures count { IfOk result (λ n. n ≡ min (min (length buf.now) (sink_piece self.old)) (sink_room self.old)) }
+        ensures count { IfOk result (λ n. n ≡
+            min (min (length buf.now) (sink_piece self.old)) (sink_room self.old)) }
         ensures calls { SinkCallsOn self.old self.new }
     {
         self.calls = self.calls.saturating_add(1);

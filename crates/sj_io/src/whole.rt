@@ -39,13 +39,19 @@ fn read_piece<F: Files>(
     bytes: &mut Vec<u8>,
 ) -> Result<usize, ReadError>
     ensures known { F.known files.new ≡ F.known files.old }
-    ensures cause { IsErrOf result ReadError.Fault → Rose (F.faults files.old name.now) (F.faults files.new name.now) }
-    ensures counts_stay { (IsErrOf result ReadError.Fault → ⊥) → CountsStay (F.faults files.old) (F.faults files.new) }
-    ensures keeps { Keeps (F.known files.old) (F.told files.old) (F.told files.new) (F.faults files.old) (F.faults files.new) name.now }
+    ensures cause { IsErrOf result ReadError.Fault →
+        Rose (F.faults files.old name.now) (F.faults files.new name.now) }
+    ensures counts_stay { (IsErrOf result ReadError.Fault → ⊥) →
+        CountsStay (F.faults files.old) (F.faults files.new) }
+    ensures keeps { Keeps (F.known files.old) (F.told files.old) (F.told files.new)
+        (F.faults files.old) (F.faults files.new) name.now }
     ensures not_big { IsErrOf result ReadError.TooBig → ⊥ }
-    ensures size { IfOk result (λ n. (n ≤ length piece.new) × (vec_len bytes.new ≡ vec_len bytes.old + n)) }
-    ensures more { IfOk result (λ n. IfSome (F.told files.old name.now) (λ all. bytes.old.items ≡ take (vec_len bytes.old) all → bytes.new.items ≡ take (vec_len bytes.new) all)) }
-    ensures end { IfOk result (λ n. IfSome (F.told files.old name.now) (λ all. n ≡ 0 → 1 ≤ length piece.new → length all ≤ vec_len bytes.old)) }
+    ensures size { IfOk result (λ n. (n ≤ length piece.new) ×
+        (vec_len bytes.new ≡ vec_len bytes.old + n)) }
+    ensures more { IfOk result (λ n. IfSome (F.told files.old name.now) (λ all. bytes.old.items ≡
+        take (vec_len bytes.old) all → bytes.new.items ≡ take (vec_len bytes.new) all)) }
+    ensures end { IfOk result (λ n. IfSome (F.told files.old name.now) (λ all. n ≡ 0 →
+        1 ≤ length piece.new → length all ≤ vec_len bytes.old)) }
 {
     let at = bytes.len() as u64;
     let Ok(n) = files.read(name, at, piece) else {
@@ -71,11 +77,15 @@ pub fn read_all<F: Files>(
     requires { limit ≤ 400_000_000 }
     ensures whole { IfOk result (λ v. IfSome (F.told files.old name.now) (λ all. v.items ≡ all)) }
     ensures limit { IfOk result (λ v. vec_len v ≤ limit) }
-    ensures too_big { IsErrOf result ReadError.TooBig → IfSome (F.told files.old name.now) (λ all. limit < length all) }
-    ensures cause { IsErrOf result ReadError.Fault → Rose (F.faults files.old name.now) (F.faults files.new name.now) }
-    ensures counts_stay { (IsErrOf result ReadError.Fault → ⊥) → CountsStay (F.faults files.old) (F.faults files.new) }
+    ensures too_big { IsErrOf result ReadError.TooBig →
+        IfSome (F.told files.old name.now) (λ all. limit < length all) }
+    ensures cause { IsErrOf result ReadError.Fault →
+        Rose (F.faults files.old name.now) (F.faults files.new name.now) }
+    ensures counts_stay { (IsErrOf result ReadError.Fault → ⊥) →
+        CountsStay (F.faults files.old) (F.faults files.new) }
     ensures known { F.known files.new ≡ F.known files.old }
-    ensures keeps { Keeps (F.known files.old) (F.told files.old) (F.told files.new) (F.faults files.old) (F.faults files.new) name.now }
+    ensures keeps { Keeps (F.known files.old) (F.told files.old) (F.told files.new)
+        (F.faults files.old) (F.faults files.new) name.now }
 {
     let mut bytes = Vec::new(alloc);
     let mut buf = [0u8; 4096];

@@ -17,14 +17,18 @@ pub fn reserved_words_are_no_names()
 /// No sign with which the bytes begin is longer than the one that is taken.
 #[tactic(auto, using(crate::proofs::OneReading::longest))]
 pub fn longest_sign_is_taken()
-    ensures { (bytes : List ℕ) (s : Sign) → longest_sign bytes ≡ Some s → list_all (is_no_longer bytes (length s.text)) signs ≡ true }
+    ensures { (bytes : List ℕ) (s : Sign) → longest_sign bytes ≡ Some s →
+        list_all (is_no_longer bytes (length s.text)) signs ≡ true }
 {}
 
 /// A source has tokens or a first bad place, not both, and no two of either.
 pub fn sources_have_one_reading()
-    ensures tokens { (source : List ℕ) (ts us : List Token) → AreTokens source ts → AreTokens source us → ts ≡ us }
-    ensures either { (source : List ℕ) (ts : List Token) (reason : Fault) (at : ℕ) → AreTokens source ts → IsRefused source reason at → ⊥ }
-    ensures refusal { (source : List ℕ) (f g : Fault) (at place : ℕ) → IsRefused source f at → IsRefused source g place → (f ≡ g) × (at ≡ place) }
+    ensures tokens { (source : List ℕ) (ts us : List Token) → AreTokens source ts →
+        AreTokens source us → ts ≡ us }
+    ensures either { (source : List ℕ) (ts : List Token) (reason : Fault) (at : ℕ) →
+        AreTokens source ts → IsRefused source reason at → ⊥ }
+    ensures refusal { (source : List ℕ) (f g : Fault) (at place : ℕ) → IsRefused source f at →
+        IsRefused source g place → (f ≡ g) × (at ≡ place) }
 {}
 
 /// The bytes of each token that is a name are a name.

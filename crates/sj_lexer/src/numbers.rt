@@ -42,7 +42,8 @@ fn with_digit(base: u64, number: u64, digit: u64) -> Option<u64>
 #[tactic(auto, using(crate::proofs::Values::growing))]
 fn number_of(base: u64, digits: &[u8]) -> Option<u64>
     requires base { 1 ≤ base }
-    ensures { MatchOption result (2 ^ 64 ≤ number_from base 0 digits.now) (λ n. n ≡ number_from base 0 digits.now) }
+    ensures { MatchOption result (2 ^ 64 ≤ number_from base 0 digits.now) (λ n. n ≡
+        number_from base 0 digits.now) }
 {
     let mut number = 0;
     let mut rest = digits;

@@ -9,7 +9,9 @@ use crate::token::Mark;
 // The mark of the longer sign where the rest begins with this byte, and that of the shorter elsewhere.
 fn longer(rest: &[u8], next: u8, long: Mark, short: Mark, bytes: usize) -> Option<(Mark, usize)>
     requires { bytes < 8 }
-    ensures { result ≡ cond (starts_with ◌==◌ rest.now (next ∷ [])) (Some (long, bytes + 1)) (Some (short, bytes)) }
+    ensures { result ≡
+        cond (starts_with ◌==◌ rest.now (next ∷
+        [])) (Some (long, bytes + 1)) (Some (short, bytes)) }
 {
     match rest.split_first() {
         Some((first, _)) => {
@@ -67,7 +69,8 @@ fn after_less(rest: &[u8]) -> Option<(Mark, usize)>
 
 // The sign that begins with `>>`, of which this is the rest.
 fn after_shr(rest: &[u8]) -> Option<(Mark, usize)>
-    ensures { result ≡ option_map (λ s. (s.mark, length s.text)) (longest_sign (62 ∷ 62 ∷ rest.now)) }
+    ensures { result ≡
+        option_map (λ s. (s.mark, length s.text)) (longest_sign (62 ∷ 62 ∷ rest.now)) }
 {
     let Some((next, more)) = rest.split_first() else {
         return Some((Mark::Shr, 2));

@@ -23,7 +23,8 @@ EndsTurn after = (after ≡ []) ⊎ ((rest : List ℕ) × (after ≡ 44 ∷ rest
 pub record BeginsTurn (word : List ℕ) (domain : ℕ) (rest : List ℕ) : Type 0 where
   pub is : word ≡ turn_text domain ++ rest
   pub below : domain < most_domains
-  pub only : (t : ℕ) (after : List ℕ) → t < most_domains → EndsTurn after → word ≡ turn_text t ++ after → (t ≡ domain) × (after ≡ rest)
+  pub only : (t : ℕ) (after : List ℕ) → t < most_domains → EndsTurn after →
+      word ≡ turn_text t ++ after → (t ≡ domain) × (after ≡ rest)
 
 pub record NoTurn (word : List ℕ) : Type 0 where
   pub none : (t : ℕ) (after : List ℕ) → t < most_domains → word ≡ turn_text t ++ after → ⊥
@@ -36,13 +37,15 @@ pub record NoList (word : List ℕ) : Type 0 where
 pub record IsLast (word : List ℕ) (domain : ℕ) : Type 0 where
   pub is : word ≡ turn_text domain
   pub below : domain < most_domains
-  pub only : (t : ℕ) (ts : List ℕ) → t < most_domains → word ≡ turns_text t ts → (t ≡ domain) × (ts ≡ [])
+  pub only : (t : ℕ) (ts : List ℕ) → t < most_domains → word ≡ turns_text t ts →
+      (t ≡ domain) × (ts ≡ [])
 
 -- this turn comes first, and after its comma come others
 pub record IsMore (word : List ℕ) (domain : ℕ) (rest : List ℕ) : Type 0 where
   pub is : word ≡ turn_text domain ++ 44 ∷ rest
   pub below : domain < most_domains
-  pub only : (t : ℕ) (ts : List ℕ) → t < most_domains → word ≡ turns_text t ts → (t ≡ domain) × (u : ℕ) × (us : List ℕ) × (ts ≡ u ∷ us) × (rest ≡ turns_text u us)
+  pub only : (t : ℕ) (ts : List ℕ) → t < most_domains → word ≡ turns_text t ts →
+      (t ≡ domain) × (u : ℕ) × (us : List ℕ) × (ts ≡ u ∷ us) × (rest ≡ turns_text u us)
 
 -- the turns of a word with commas
 pub record IsTurnList (word turns : List ℕ) : Type 0 where
@@ -62,12 +65,15 @@ pub record HasList (word : List ℕ) : Type 0 where
   pub few : (d : ℕ) → turns_of d (first ∷ others) ≤ most_turns
 
 pub record NoFewTurns (word : List ℕ) : Type 0 where
-  pub none : (t : ℕ) (ts : List ℕ) → AreDomains (t ∷ ts) → ((d : ℕ) → turns_of d (t ∷ ts) ≤ most_turns) → word ≡ turns_text t ts → ⊥
+  pub none : (t : ℕ) (ts : List ℕ) → AreDomains (t ∷ ts) →
+      ((d : ℕ) → turns_of d (t ∷ ts) ≤ most_turns) → word ≡ turns_text t ts → ⊥
 
 -- the turns before the rest are these
 pub record TurnsReach (word turns rest : List ℕ) : Type 0 where
-  pub there : (t : ℕ) (ts : List ℕ) → rest ≡ turns_text t ts → (u : ℕ) × (us : List ℕ) × (turns ++ t ∷ ts ≡ u ∷ us) × (word ≡ turns_text u us)
-  pub back : (u : ℕ) (us : List ℕ) → AreDomains (u ∷ us) → word ≡ turns_text u us → (t : ℕ) × (ts : List ℕ) × (u ∷ us ≡ turns ++ t ∷ ts) × (rest ≡ turns_text t ts)
+  pub there : (t : ℕ) (ts : List ℕ) → rest ≡ turns_text t ts →
+      (u : ℕ) × (us : List ℕ) × (turns ++ t ∷ ts ≡ u ∷ us) × (word ≡ turns_text u us)
+  pub back : (u : ℕ) (us : List ℕ) → AreDomains (u ∷ us) → word ≡ turns_text u us →
+      (t : ℕ) × (ts : List ℕ) × (u ∷ us ≡ turns ++ t ∷ ts) × (rest ≡ turns_text t ts)
   pub domains : AreDomains turns
 
 -- the turns before the rest, counted by domain: none has too many

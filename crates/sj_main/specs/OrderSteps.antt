@@ -31,13 +31,16 @@ pub record IsMadeFrom (bytes : List ℕ) (turns : Turns) (made : Made) : Type 0 
   pub can : CanRun program turns
   pub tables : tables_of made.system ≡ program.tables
   pub last : SystemState
-  pub scheduled : IsScheduledRun (program_setup program no_inputs) (run_state made.run) (turns_of_program program turns) last
-  pub whole : IsWholeRun (program_setup program no_inputs) (run_state made.run) (turns_of_program program turns)
+  pub scheduled : IsScheduledRun (program_setup program no_inputs) (run_state made.run)
+      (turns_of_program program turns) last
+  pub whole : IsWholeRun (program_setup program no_inputs) (run_state made.run)
+      (turns_of_program program turns)
 
 -- the turns fit the system's domains, their run isn't too heavy, and this is it
 pub record RunsTurns (system : System) (turns : Turns) (run : RunState) : Type 0 where
   pub fit : FitDomains turns (length (domains_of system))
-  pub weight : run_weight (tables_of system) (budgets_for turns (length (domains_of system))) ≤ most_run_weight
+  pub weight : run_weight (tables_of system) (budgets_for turns (length (domains_of system))) ≤
+      most_run_weight
   pub is : IsOrderRun system no_inputs (turns_for turns (length (domains_of system))) run
 
 -- the turns fit, and their run has this weight, which is above the limit
@@ -59,20 +62,23 @@ IsWhyNoRun system turns NoMemory = Unit {0}
 abbrev pub IsWhyNotMade : List ℕ → Turns → OrderError → Type 0
 IsWhyNotMade bytes turns Fault = Unit {0}
 IsWhyNotMade bytes turns Size = most_source_bytes < length bytes
-IsWhyNotMade bytes turns (Refused reason) = (length bytes ≤ most_source_bytes) × IsRefusedFor bytes reason
+IsWhyNotMade bytes turns (Refused reason) =
+    (length bytes ≤ most_source_bytes) × IsRefusedFor bytes reason
 IsWhyNotMade bytes turns DomainsDoNotFit = IsMisfit bytes turns
 IsWhyNotMade bytes turns (OverWeight weight) = IsOverweight bytes turns weight
 IsWhyNotMade bytes turns NoMemory = Unit {0}
 
 -- the run of the turns has a weight above the limit, and the sink took its line
-pub record TellsWeight (told : Option (List ℕ)) (turns : Turns) (old new : Option (List ℕ)) : Type 0 where
-  pub weight : ℕ
-  pub is : IfSome told (λ bytes. IsOverweight bytes turns weight)
-  pub takes : TakesMore old new (overweight_line weight)
+pub record TellsWeight (told : Option (List ℕ)) (turns : Turns) (old new : Option (List ℕ)) : Type 0
+  where
+    pub weight : ℕ
+    pub is : IfSome told (λ bytes. IsOverweight bytes turns weight)
+    pub takes : TakesMore old new (overweight_line weight)
 
 -- the sink took a prefix of the text that some answer to the order of these bytes has, and the files' counts
 -- fit that answer
-pub record BeginsOrder (told : Option (List ℕ)) (turns : Turns) (file : List ℕ) (faults faults' : List ℕ → ℕ) (old new : Option (List ℕ)) : Type 0 where
+pub record BeginsOrder (told : Option (List ℕ)) (turns : Turns) (file : List ℕ)
+    (faults faults' : List ℕ → ℕ) (old new : Option (List ℕ)) : Type 0 where
   pub outcome : CommandOutcome
   pub text : List ℕ
   pub is : IsOrderAnswer told turns outcome text

@@ -83,7 +83,8 @@ struct Listed<'a> {
 }
 
 fn after_comma(rest: &[u8]) -> Option<&[u8]>
-    ensures { MatchOption result ((after : List ℕ) → rest.now ≢ 44 ∷ after) (λ after. rest.now ≡ 44 ∷ after.now) }
+    ensures { MatchOption result ((after : List ℕ) →
+        rest.now ≢ 44 ∷ after) (λ after. rest.now ≡ 44 ∷ after.now) }
 {
     if let [b',', after @ ..] = rest {
         Some(after)
@@ -95,7 +96,9 @@ fn after_comma(rest: &[u8]) -> Option<&[u8]>
 /// The turn that a list begins with.
 #[tactic(auto, using(crate::proofs::ReadTurns::list_steps))]
 fn first_listed(word: &[u8]) -> Option<Listed<'_>>
-    ensures { MatchOption result (NoList word.now) (λ l. MatchOption l.after (IsLast word.now l.domain) (λ rest. IsMore word.now l.domain rest.now)) }
+    ensures { MatchOption result (NoList word.now)
+        (λ l. MatchOption l.after (IsLast word.now l.domain)
+        (λ rest. IsMore word.now l.domain rest.now)) }
 {
     let turn = first_turn(word)?;
     if turn.rest.is_empty() {
@@ -158,7 +161,8 @@ fn read_list(alloc: Global, word: &[u8]) -> Result<Vec<u32>, NoMemory>
 /// Turns one by one.
 #[tactic(auto, using(crate::proofs::ReadTurns::each_steps))]
 fn read_each(alloc: Global, word: &[u8]) -> Result<Option<Items<u32>>, NoMemory>
-    ensures ok { IfOk result (λ o. MatchOption o (NoEach word.now) (λ turns. IsEach word.now turns)) }
+    ensures ok { IfOk result
+        (λ o. MatchOption o (NoEach word.now) (λ turns. IsEach word.now turns)) }
     ensures err { OnErr result (HasEach word.now) }
 {
     if word == b"-".as_slice() {
@@ -187,7 +191,8 @@ fn whole_number(word: &[u8]) -> Option<u32>
 
 /// The bytes after `rr:`.
 fn after_rounds(word: &[u8]) -> Option<&[u8]>
-    ensures { MatchOption result ((digits : List ℕ) → word.now ≡ codes "rr:" ++ digits → ⊥) (λ digits. word.now ≡ codes "rr:" ++ digits.now) }
+    ensures { MatchOption result ((digits : List ℕ) → word.now ≡ codes "rr:" ++ digits →
+        ⊥) (λ digits. word.now ≡ codes "rr:" ++ digits.now) }
 {
     if let [b'r', b'r', b':', digits @ ..] = word {
         Some(digits)
@@ -208,7 +213,8 @@ fn read_rounds(word: &[u8]) -> Option<u32>
 /// The turns that a word is.
 #[tactic(auto, using(crate::proofs::ReadTurns::turn_steps))]
 fn read_turns(alloc: Global, word: &[u8]) -> Result<Option<Turns>, NoMemory>
-    ensures ok { IfOk result (λ o. MatchOption o (NoTurns word.now) (λ turns. IsTurns word.now turns)) }
+    ensures ok { IfOk result (λ o. MatchOption o (NoTurns word.now)
+        (λ turns. IsTurns word.now turns)) }
     ensures err { OnErr result (HasTurns word.now) }
 {
     if let Some(rounds) = read_rounds(word) {
@@ -228,7 +234,8 @@ struct OrderWords<'a> {
 
 /// The words of an order: `order`, a file, turns and `-`.
 fn order_words(words: &[String]) -> Option<OrderWords<'_>>
-    ensures { MatchOption result (NoOrderWords (word_list words.now)) (λ w. AreOrderWords (word_list words.now) w.file.now w.turns.now) }
+    ensures { MatchOption result (NoOrderWords (word_list words.now))
+        (λ w. AreOrderWords (word_list words.now) w.file.now w.turns.now) }
 {
     if words.len() != 4 {
         return None;
@@ -245,7 +252,8 @@ fn order_words(words: &[String]) -> Option<OrderWords<'_>>
 /// The command that the words are. Only those of a command take memory.
 #[tactic(auto, using(crate::proofs::WordLemmas::word_steps))]
 pub fn read_order(alloc: Global, words: &[String]) -> Result<Option<Order<'_>>, NoMemory>
-    ensures ok { IfOk result (λ o. MatchOption o (IsNoCommand (word_list words.now)) (λ order. IsOrder (word_list words.now) order.file.now order.turns)) }
+    ensures ok { IfOk result (λ o. MatchOption o (IsNoCommand (word_list words.now))
+        (λ order. IsOrder (word_list words.now) order.file.now order.turns)) }
     ensures err { OnErr result (IsCommand (word_list words.now)) }
 {
     let Some(OrderWords { file, turns }) = order_words(words) else {

@@ -6,5 +6,6 @@ ghost use Rattle.sj_main.specs.definitions.Commands.{IsOrder};
 
 /// Words are one command at most.
 pub fn words_are_one_command()
-    ensures { (words : List (List ℕ)) (file other : List ℕ) (turns more : Turns) → IsOrder words file turns → IsOrder words other more → (file ≡ other) × (turns ≡ more) }
+    ensures { (words : List (List ℕ)) (file other : List ℕ) (turns more : Turns) →
+        IsOrder words file turns → IsOrder words other more → (file ≡ other) × (turns ≡ more) }
 {}

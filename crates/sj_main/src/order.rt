@@ -127,11 +127,15 @@ pub fn order<F: Files>(
     files: &mut F,
 ) -> Result<Made, OrderError>
     requires { AreFew turns.now }
-    ensures made { IfOk result (λ made. IfSome (F.told files.old file.now) (λ bytes. IsMadeFrom bytes turns.now made)) }
+    ensures made { IfOk result (λ made. IfSome (F.told files.old file.now)
+        (λ bytes. IsMadeFrom bytes turns.now made)) }
     ensures holds { IfOk result (λ made. HoldsRun made.system made.run) }
-    ensures fault { IsErrOf result OrderError.Fault → Rose (F.faults files.old file.now) (F.faults files.new file.now) }
-    ensures counts_stay { (IsErrOf result OrderError.Fault → ⊥) → CountsStay (F.faults files.old) (F.faults files.new) }
-    ensures why { IfErr result (λ e. IfSome (F.told files.old file.now) (λ bytes. IsWhyNotMade bytes turns.now e)) }
+    ensures fault { IsErrOf result OrderError.Fault →
+        Rose (F.faults files.old file.now) (F.faults files.new file.now) }
+    ensures counts_stay { (IsErrOf result OrderError.Fault → ⊥) →
+        CountsStay (F.faults files.old) (F.faults files.new) }
+    ensures why { IfErr result (λ e. IfSome (F.told files.old file.now)
+        (λ bytes. IsWhyNotMade bytes turns.now e)) }
 {
     let bytes = match read_all(alloc, files, file, MOST_SOURCE_BYTES) {
         Ok(bytes) => bytes,

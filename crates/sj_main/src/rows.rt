@@ -7,19 +7,22 @@ ghost use Rattle.sj_main.specs.definitions.Verdicts.{IsTextOfRun};
 /// The empty program ends in its first tick.
 #[tactic(auto, using(crate::proofs::RowLemmas::nothing_in_one_turn))]
 pub fn nothing_in_one_turn()
-    ensures { IsTextOfRun (codes "system{interface{}{}}") (Each (0 ∷ [])) (codes "domain 0 ticks 1 ended\n1 @1\n") }
+    ensures { IsTextOfRun (codes "system{interface{}{}}") (Each (0 ∷
+        [])) (codes "domain 0 ticks 1 ended\n1 @1\n") }
 {}
 
 /// Without a turn there is no tick.
 #[tactic(auto, using(crate::proofs::RowLemmas::nothing_in_no_turn))]
 pub fn nothing_in_no_turn()
-    ensures { IsTextOfRun (codes "system{interface{}{}}") (Each []) (codes "domain 0 ticks 0 paused\n") }
+    ensures { IsTextOfRun (codes "system{interface{}{}}") (Each [])
+        (codes "domain 0 ticks 0 paused\n") }
 {}
 
 /// A signal is emitted in two ticks, and the third turn is one of an ended domain.
 #[tactic(auto, using(crate::proofs::RowLemmas::blink_in_three_turns))]
 pub fn blink_in_three_turns()
-    ensures { IsTextOfRun (codes "system{interface{output signal A;}{emit A;pause;emit A;}}") (Each (0 ∷ 0 ∷ 0 ∷ [])) (codes "domain 0 ticks 2 ended\n1 @1 A\n2 @2 A\n") }
+    ensures { IsTextOfRun (codes "system{interface{output signal A;}{emit A;pause;emit A;}}")
+        (Each (0 ∷ 0 ∷ 0 ∷ [])) (codes "domain 0 ticks 2 ended\n1 @1 A\n2 @2 A\n") }
 {}
 
 /// The block of a loop starts again in the tick in which it ends.

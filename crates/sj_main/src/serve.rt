@@ -41,7 +41,8 @@ pub fn answer<K: Sink>(out: &mut K, line: &[u8], status: u8) -> u8
 
 // Writes the bytes, unless a write before them failed.
 fn put<K: Sink>(out: &mut K, ok: bool, bytes: &[u8]) -> bool
-    ensures { Puts ok result (K.taken out.old) (K.taken out.new) (K.faults out.old) (K.faults out.new) bytes.now }
+    ensures { Puts ok result (K.taken out.old) (K.taken out.new) (K.faults out.old)
+        (K.faults out.new) bytes.now }
 {
     if ok {
         write_all(out, bytes).is_ok()
@@ -52,7 +53,8 @@ fn put<K: Sink>(out: &mut K, ok: bool, bytes: &[u8]) -> bool
 
 // Writes the line of a text and a number.
 fn put_numbered<K: Sink>(out: &mut K, text: &[u8], number: u64) -> bool
-    ensures { Puts true result (K.taken out.old) (K.taken out.new) (K.faults out.old) (K.faults out.new) (numbered_line text.now number) }
+    ensures { Puts true result (K.taken out.old) (K.taken out.new) (K.faults out.old)
+        (K.faults out.new) (numbered_line text.now number) }
 {
     let mut buffer = Buffer::new();
     let begun = put(out, true, text);
@@ -64,9 +66,11 @@ fn put_numbered<K: Sink>(out: &mut K, text: &[u8], number: u64) -> bool
 fn answer_numbered<K: Sink>(out: &mut K, text: &[u8], number: u64, status: u8) -> u8
     requires { status ≢ 4 }
     ensures status { (result ≡ status) ⊎ (result ≡ 4) }
-    ensures ok { result ≢ 4 → TakesMore (K.taken out.old) (K.taken out.new) (numbered_line text.now number) }
+    ensures ok { result ≢ 4 →
+        TakesMore (K.taken out.old) (K.taken out.new) (numbered_line text.now number) }
     ensures fault { result ≡ 4 → Rose (K.faults out.old) (K.faults out.new) }
-    ensures takes_prefix { result ≡ 4 → TakesPrefix (K.taken out.old) (K.taken out.new) (numbered_line text.now number) }
+    ensures takes_prefix { result ≡ 4 →
+        TakesPrefix (K.taken out.old) (K.taken out.new) (numbered_line text.now number) }
 {
     if put_numbered(out, text, number) {
         status
@@ -113,7 +117,8 @@ fn answer_refusal<K: Sink>(out: &mut K, refusal: Refusal) -> u8
     ensures status { (result ≡ 1) ⊎ (result ≡ 4) }
     ensures ok { result ≢ 4 → TakesMore (K.taken out.old) (K.taken out.new) (refusal_line refusal) }
     ensures fault { result ≡ 4 → Rose (K.faults out.old) (K.faults out.new) }
-    ensures takes_prefix { result ≡ 4 → TakesPrefix (K.taken out.old) (K.taken out.new) (refusal_line refusal) }
+    ensures takes_prefix { result ≡ 4 →
+        TakesPrefix (K.taken out.old) (K.taken out.new) (refusal_line refusal) }
 {
     match refusal {
         Refusal::BadByte(at) => answer_numbered(out, b"refused BadByte at ", u64::from(at), 1),
@@ -143,14 +148,28 @@ fn serve_order<F: Files, K: Sink>(
 ) -> u8
     requires { AreFew turns.now }
     ensures statuses { (result ≤ 5) ⊎ (result ≡ 7) }
-    ensures done { result ≡ 0 → IfSome (F.told files.old file.now) (λ bytes. PrintsRun bytes turns.now (K.taken out.old) (K.taken out.new)) }
-    ensures refused { result ≡ 1 → IfSome (F.told files.old file.now) (λ bytes. PrintsRefusal bytes (K.taken out.old) (K.taken out.new)) }
-    ensures misfit { result ≡ 2 → IfSome (F.told files.old file.now) (λ bytes. IsMisfit bytes turns.now) × TakesMore (K.taken out.old) (K.taken out.new) misfit_line }
-    ensures read_fault { result ≡ 3 → Rose (F.faults files.old file.now) (F.faults files.new file.now) × TakesMore (K.taken out.old) (K.taken out.new) (codes "read fault\n") }
-    ensures write_fault { result ≡ 4 → Rose (K.faults out.old) (K.faults out.new) × BeginsOrder (F.told files.old file.now) turns.now file.now (F.faults files.old) (F.faults files.new) (K.taken out.old) (K.taken out.new) }
-    ensures no_memory { result ≡ 5 → TakesMore (K.taken out.old) (K.taken out.new) (codes "no memory\n") }
-    ensures counts_stay { result ≢ 3 → result ≢ 4 → CountsStay (F.faults files.old) (F.faults files.new) }
-    ensures weight { result ≡ 7 → TellsWeight (F.told files.old file.now) turns.now (K.taken out.old) (K.taken out.new) }
+    ensures done { result ≡ 0 →
+        IfSome (F.told files.old file.now)
+        (λ bytes. PrintsRun bytes turns.now (K.taken out.old) (K.taken out.new)) }
+    ensures refused { result ≡ 1 →
+        IfSome (F.told files.old file.now)
+        (λ bytes. PrintsRefusal bytes (K.taken out.old) (K.taken out.new)) }
+    ensures misfit { result ≡ 2 →
+        IfSome (F.told files.old file.now) (λ bytes. IsMisfit bytes turns.now) ×
+        TakesMore (K.taken out.old) (K.taken out.new) misfit_line }
+    ensures read_fault { result ≡ 3 →
+        Rose (F.faults files.old file.now) (F.faults files.new file.now) ×
+        TakesMore (K.taken out.old) (K.taken out.new) (codes "read fault\n") }
+    ensures write_fault { result ≡ 4 →
+        Rose (K.faults out.old) (K.faults out.new) ×
+        BeginsOrder (F.told files.old file.now) turns.now file.now (F.faults files.old)
+        (F.faults files.new) (K.taken out.old) (K.taken out.new) }
+    ensures no_memory { result ≡ 5 →
+        TakesMore (K.taken out.old) (K.taken out.new) (codes "no memory\n") }
+    ensures counts_stay { result ≢ 3 → result ≢ 4 →
+        CountsStay (F.faults files.old) (F.faults files.new) }
+    ensures weight { result ≡ 7 →
+        TellsWeight (F.told files.old file.now) turns.now (K.taken out.old) (K.taken out.new) }
 {
     match order(alloc, file, turns, files) {
         Ok(made) => match print(&made.run, &made.system, out) {
@@ -189,18 +208,32 @@ pub fn serve_plain<F: Files, K: Sink>(
     out: &mut K,
 ) -> u8
     ensures statuses { (result ≤ 5) ⊎ (result ≡ 7) }
-    ensures done { result ≡ 0 → OrdersSuch (word_list words.now) (F.told files.old) (λ bytes turns. PrintsRun bytes turns (K.taken out.old) (K.taken out.new)) }
-    ensures refused { result ≡ 1 → OrdersSuch (word_list words.now) (F.told files.old) (λ bytes turns. PrintsRefusal bytes (K.taken out.old) (K.taken out.new)) }
+    ensures done { result ≡ 0 →
+        OrdersSuch (word_list words.now) (F.told files.old)
+        (λ bytes turns. PrintsRun bytes turns (K.taken out.old) (K.taken out.new)) }
+    ensures refused { result ≡ 1 →
+        OrdersSuch (word_list words.now) (F.told files.old)
+        (λ bytes turns. PrintsRefusal bytes (K.taken out.old) (K.taken out.new)) }
     ensures no_run { result ≡ 2 →
         PrintsUsage (word_list words.now) (K.taken out.old) (K.taken out.new)
         ⊎ PrintsMisfit (word_list words.now) (F.told files.old) (K.taken out.old) (K.taken out.new) }
     ensures usage { IsNoCommand (word_list words.now) → (result ≡ 2) ⊎ (result ≡ 4) }
-    ensures read_fault { result ≡ 3 → FailsToRead (word_list words.now) (F.faults files.old) (F.faults files.new) × TakesMore (K.taken out.old) (K.taken out.new) (codes "read fault\n") }
-    ensures write_fault { result ≡ 4 → Rose (K.faults out.old) (K.faults out.new) × BeginsAnswer (word_list words.now) (F.told files.old) (F.faults files.old) (F.faults files.new) (K.taken out.old) (K.taken out.new) }
-    ensures no_memory { result ≡ 5 → IsCommand (word_list words.now) × TakesMore (K.taken out.old) (K.taken out.new) (codes "no memory\n") }
-    ensures counts_stay { result ≢ 3 → result ≢ 4 → CountsStay (F.faults files.old) (F.faults files.new) }
-    ensures unread { IsNoCommand (word_list words.now) → CountsStay (F.faults files.old) (F.faults files.new) }
-    ensures weight { result ≡ 7 → PrintsWeight (word_list words.now) (F.told files.old) (K.taken out.old) (K.taken out.new) }
+    ensures read_fault { result ≡ 3 →
+        FailsToRead (word_list words.now) (F.faults files.old) (F.faults files.new) ×
+        TakesMore (K.taken out.old) (K.taken out.new) (codes "read fault\n") }
+    ensures write_fault { result ≡ 4 →
+        Rose (K.faults out.old) (K.faults out.new) ×
+        BeginsAnswer (word_list words.now) (F.told files.old) (F.faults files.old)
+        (F.faults files.new) (K.taken out.old) (K.taken out.new) }
+    ensures no_memory { result ≡ 5 →
+        IsCommand (word_list words.now) ×
+        TakesMore (K.taken out.old) (K.taken out.new) (codes "no memory\n") }
+    ensures counts_stay { result ≢ 3 → result ≢ 4 →
+        CountsStay (F.faults files.old) (F.faults files.new) }
+    ensures unread { IsNoCommand (word_list words.now) →
+        CountsStay (F.faults files.old) (F.faults files.new) }
+    ensures weight { result ≡ 7 →
+        PrintsWeight (word_list words.now) (F.told files.old) (K.taken out.old) (K.taken out.new) }
 {
     match read_order(alloc, words) {
         Ok(Some(order)) => serve_order(alloc, order.file, &order.turns, files, out),

@@ -43,7 +43,8 @@ pub fn budgets(alloc: Global, turns: &Turns, domains: u32) -> Result<Vec<u32>, N
 fn counts(alloc: Global, turns: &[u32], domains: u32) -> Result<Vec<u32>, NoMemory>
     requires fit { All (λ turn. turn < domains) turns.now }
     requires few { (d : ℕ) → turns_of d turns.now ≤ most_turns }
-    ensures { IfOk result (λ counts. counts.items ≡ map (λ d. turns_of d turns.now) (range_with_len 0 domains)) }
+    ensures { IfOk result (λ counts. counts.items ≡
+        map (λ d. turns_of d turns.now) (range_with_len 0 domains)) }
 {
     let mut counts = vec![in alloc; 0u32; domains as usize]?;
     for turn in turns {
@@ -89,8 +90,10 @@ pub fn run_weight(system: &System, budgets: &[u32]) -> u64
 // What the domains add to the weight.
 fn domains_weight(tables: &Tables, budgets: &[u32]) -> u64
     requires domains { length budgets.now ≤ most_domains }
-    requires small { sum_by (domain_weight tables.now budgets.now) (range_with_len 0 (length budgets.now)) < 2 ^ 63 }
-    ensures { result ≡ sum_by (domain_weight tables.now budgets.now) (range_with_len 0 (length budgets.now)) }
+    requires small { sum_by (domain_weight tables.now budgets.now)
+        (range_with_len 0 (length budgets.now)) < 2 ^ 63 }
+    ensures { result ≡
+        sum_by (domain_weight tables.now budgets.now) (range_with_len 0 (length budgets.now)) }
 {
     let mut weight = 0;
     for domain in 0..budgets.len() {

@@ -20,10 +20,12 @@ or_where None b e = cond b (Some e) None
 
 -- what used no domain before is used first by this one
 abbrev pub Claims : (old new : FirstUses) → Option ℕ → ℕ → Type 0
-Claims old new number domain = (n : ℕ) → first_of new n ≡ or_where (first_of old n) (is_number n number) domain
+Claims old new number domain =
+    (n : ℕ) → first_of new n ≡ or_where (first_of old n) (is_number n number) domain
 
 abbrev pub UsesAll : (old new : FirstUses) → Use → List Mention → ℕ → Type 0
-UsesAll old new way mentions domain = (n : ℕ) → first_of new n ≡ or_where (first_of old n) (uses way n mentions) domain
+UsesAll old new way mentions domain =
+    (n : ℕ) → first_of new n ≡ or_where (first_of old n) (uses way n mentions) domain
 
 abbrev pub AreFirst : FirstUses → Use → List (List Mention) → Type 0
 AreFirst firsts way domains = (n : ℕ) → first_of firsts n ≡ first_with (uses way n) 0 domains

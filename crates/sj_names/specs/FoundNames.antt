@@ -13,6 +13,8 @@ abbrev pub named : List Visible → List Named
 named = map (λ v. record { name = v.name.now; meaning = v.meaning })
 
 -- each name stands for what is found, and no name is visible twice
-pub record AreFound (visible : List Named) (meanings : BTreeMap (Bor (List ℕ)) Meaning) : Type 0 where
-  pub each : (name : List ℕ) → get_by (λ k. slice_cmp nat_cmp name k.now) meanings ≡ meaning_in visible name
-  pub apart : are_distinct (map (λ v. v.name) visible) ≡ true
+pub record AreFound (visible : List Named) (meanings : BTreeMap (Bor (List ℕ)) Meaning) : Type 0
+  where
+    pub each : (name : List ℕ) →
+        get_by (λ k. slice_cmp nat_cmp name k.now) meanings ≡ meaning_in visible name
+    pub apart : are_distinct (map (λ v. v.name) visible) ≡ true

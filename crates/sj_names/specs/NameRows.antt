@@ -31,7 +31,11 @@ abbrev pub name_at : List ℕ → ℕ → Name
 name_at text at = record { text = text; at = at }
 
 abbrev pub port_at : Direction → List ℕ → ℕ → port.Port Name
-port_at d text at = port_is.Signal (record { direction = d; signal = record { at = at; name = name_at text at; valued = None } })
+port_at d text at =
+    port_is.Signal (record {
+      direction = d;
+      signal = record { at = at; name = name_at text at; valued = None };
+    })
 
 abbrev pub channel_at : List ℕ → ℕ → port.Port Name
 channel_at text at = port_is.Channel (record { kind = Int; at = at; name = name_at text at })
@@ -79,7 +83,9 @@ first_of ports domains places = least_of None (failures_of (names ports domains 
 
 -- entries of tables
 abbrev pub pure_signal : List ℕ → ℕ → tables_sort.Sort → SignalInfo
-pure_signal text domain s = record { name = text; domain = domain; sort = s; kind = None; combine = Max }
+pure_signal text domain s =
+    record { name = text; domain = domain; sort = s; kind = None; combine = Max }
 
 abbrev pub int_channel : List ℕ → ℕ → ℕ → ChannelInfo
-int_channel text sender receiver = record { name = text; kind = Int; sender = sender; receiver = receiver }
+int_channel text sender receiver =
+    record { name = text; kind = Int; sender = sender; receiver = receiver }

@@ -8,4 +8,5 @@ use Rattle.sj_names.specs.FirstDomains.{first_of}
 
 -- the numbers that these names of the domain use so, and no others
 abbrev pub AreHere : FirstUses → Use → List Mention → ℕ → Type 0
-AreHere here way mentions domain = (n : ℕ) → first_of here n ≡ cond (uses way n mentions) (Some domain) None
+AreHere here way mentions domain =
+    (n : ℕ) → first_of here n ≡ cond (uses way n mentions) (Some domain) None

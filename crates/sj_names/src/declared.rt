@@ -86,7 +86,8 @@ impl Declarations {
         domain: u32,
         statement: &Stmt<Name, Raw<Name>>,
     ) -> Result<(), NoMemory>
-        ensures { IfOk result (λ _. declared_in self.new ≡ both (declared_in self.old) (declared_stmt domain statement.now)) }
+        ensures { IfOk result (λ _. declared_in self.new ≡
+            both (declared_in self.old) (declared_stmt domain statement.now)) }
     {
         self.form(alloc, domain, &statement.form)
     }
@@ -98,7 +99,8 @@ impl Declarations {
         domain: u32,
         form: &Form<Name, Raw<Name>>,
     ) -> Result<(), NoMemory>
-        ensures { IfOk result (λ _. declared_in self.new ≡ both (declared_in self.old) (declared_form domain form.now)) }
+        ensures { IfOk result (λ _. declared_in self.new ≡
+            both (declared_in self.old) (declared_form domain form.now)) }
     {
         match form {
             Form::Declare(signal) => {
@@ -142,7 +144,8 @@ impl Declarations {
         domain: u32,
         block: &Option<Block<Name, Raw<Name>>>,
     ) -> Result<(), NoMemory>
-        ensures { IfOk result (λ _. declared_in self.new ≡ both (declared_in self.old) (declared_other domain block.now)) }
+        ensures { IfOk result (λ _. declared_in self.new ≡
+            both (declared_in self.old) (declared_other domain block.now)) }
     {
         match block {
             Some(block) => self.block(alloc, domain, block),
@@ -157,7 +160,8 @@ impl Declarations {
         domain: u32,
         blocks: &[Block<Name, Raw<Name>>],
     ) -> Result<(), NoMemory>
-        ensures { IfOk result (λ _. declared_in self.new ≡ both (declared_in self.old) (all (map (declared_block domain) blocks.now))) }
+        ensures { IfOk result (λ _. declared_in self.new ≡
+            both (declared_in self.old) (all (map (declared_block domain) blocks.now))) }
     {
         for block in blocks {
             self.block(alloc, domain, block)?;
@@ -172,7 +176,8 @@ impl Declarations {
         domain: u32,
         block: &Block<Name, Raw<Name>>,
     ) -> Result<(), NoMemory>
-        ensures { IfOk result (λ _. declared_in self.new ≡ both (declared_in self.old) (declared_block domain block.now)) }
+        ensures { IfOk result (λ _. declared_in self.new ≡
+            both (declared_in self.old) (declared_block domain block.now)) }
     {
         self.statements(alloc, domain, block.statements.as_slice())
     }
@@ -184,7 +189,8 @@ impl Declarations {
         domain: u32,
         statements: &[Stmt<Name, Raw<Name>>],
     ) -> Result<(), NoMemory>
-        ensures { IfOk result (λ _. declared_in self.new ≡ both (declared_in self.old) (all (map (declared_stmt domain) statements.now))) }
+        ensures { IfOk result (λ _. declared_in self.new ≡
+            both (declared_in self.old) (all (map (declared_stmt domain) statements.now))) }
     {
         for statement in statements {
             self.statement(alloc, domain, statement)?;
@@ -193,7 +199,8 @@ impl Declarations {
     }
 
     fn domains(&mut self, alloc: Global, domains: &[Block<Name, Raw<Name>>]) -> Result<(), NoMemory>
-        ensures { IfOk result (λ _. declared_in self.new ≡ both (declared_in self.old) (declared_domains 0 domains.now)) }
+        ensures { IfOk result (λ _. declared_in self.new ≡
+            both (declared_in self.old) (declared_domains 0 domains.now)) }
     {
         for i in 0..domains.len() {
             let domain = number_of(i)?;

@@ -69,7 +69,9 @@ impl<'a> Domains<'a> {
 
     /// Whether a `send` and a `receive` use the channel.
     pub fn is_joined(&self, channel: u32) -> bool
-        ensures { result ≡ (list_any (uses SendingEnd channel) (names_in self.now) && list_any (uses Receive channel) (names_in self.now)) }
+        ensures { result ≡
+            (list_any (uses SendingEnd channel) (names_in self.now) &&
+            list_any (uses Receive channel) (names_in self.now)) }
     {
         self.is_used(Use::SendingEnd, channel) && self.is_used(Use::Receive, channel)
     }

@@ -54,7 +54,10 @@ impl Least {
         mention: &Mention,
     )
         requires { AreHere here.now other before.now domain }
-        ensures { self.new.found ≡ least_of self.old.found (end_failure way other (take domain (names_in domains.now)) before.now mention.now.at (number_in way mention.now)) }
+        ensures { self.new.found ≡
+            least_of self.old.found
+            (end_failure way other (take domain (names_in domains.now)) before.now mention.now.at
+            (number_in way mention.now)) }
     {
         match mention.number(way) {
             None => {}
@@ -74,7 +77,9 @@ impl Least {
         mention: &Mention,
     ) -> Result<(), NoMemory>
         requires { HasEnds here.old before.now domain }
-        ensures found { IfOk result (λ _. self.new.found ≡ least_of self.old.found (both_end_failures (take domain (names_in domains.now)) before.now mention.now)) }
+        ensures found { IfOk result (λ _. self.new.found ≡
+            least_of self.old.found
+            (both_end_failures (take domain (names_in domains.now)) before.now mention.now)) }
         ensures here { IfOk result (λ _. HasEnds here.new (before.now ++ mention.now ∷ []) domain) }
     {
         let (sending, receiving) = (Use::SendingEnd, Use::ReceivingEnd);
@@ -107,7 +112,9 @@ impl Least {
         domain: usize,
         mentions: &[Mention],
     ) -> Result<(), NoMemory>
-        ensures { IfOk result (λ _. self.new.found ≡ least_of self.old.found (domain_end_failures (take domain (names_in domains.now)) [] mentions.now)) }
+        ensures { IfOk result (λ _. self.new.found ≡
+            least_of self.old.found
+            (domain_end_failures (take domain (names_in domains.now)) [] mentions.now)) }
     {
         let mut here = EndsHere::new(alloc);
         for i in 0..mentions.len() {
@@ -118,7 +125,8 @@ impl Least {
 
     /// The uses that give a channel a second domain at one end, or one domain at both.
     pub fn add_second_ends(&mut self, alloc: Global, domains: &Domains<'_>) -> Result<(), NoMemory>
-        ensures { IfOk result (λ _. self.new.found ≡ least_of self.old.found (end_failures [] (names_in domains.now))) }
+        ensures { IfOk result (λ _. self.new.found ≡
+            least_of self.old.found (end_failures [] (names_in domains.now))) }
     {
         for i in 0..domains.names.len() {
             self.add_domain_ends(alloc, domains, i, &domains.names[i])?;
@@ -128,7 +136,8 @@ impl Least {
 
     /// The channels, declared at these places, that no `send` or no `receive` uses.
     pub fn add_unjoined(&mut self, domains: &Domains<'_>, places: &[u32]) -> Result<(), NoMemory>
-        ensures { IfOk result (λ _. self.new.found ≡ least_of self.old.found (unjoined_failures (names_in domains.now) 0 places.now)) }
+        ensures { IfOk result (λ _. self.new.found ≡
+            least_of self.old.found (unjoined_failures (names_in domains.now) 0 places.now)) }
     {
         for i in 0..places.len() {
             let channel = number_of(i)?;

@@ -14,7 +14,8 @@ pub fn add_name(
     name: &Name,
     mentions: &mut Vec<Mention>,
 ) -> Result<(), NoMemory>
-    ensures { IfOk result (λ _. mentions.new.items ≡ mentions.old.items ++ mention role name.now (scope_of names.now) ∷ []) }
+    ensures { IfOk result (λ _. mentions.new.items ≡
+        mentions.old.items ++ mention role name.now (scope_of names.now) ∷ []) }
 {
     mentions.push(Mention {
         at: name.at,
@@ -30,7 +31,8 @@ pub fn add_expression(
     expression: &Raw<Name>,
     mentions: &mut Vec<Mention>,
 ) -> Result<(), NoMemory>
-    ensures { IfOk result (λ _. mentions.new.items ≡ mentions.old.items ++ expression_mentions expression.now (scope_of names.now)) }
+    ensures { IfOk result (λ _. mentions.new.items ≡
+        mentions.old.items ++ expression_mentions expression.now (scope_of names.now)) }
 {
     match expression {
         Raw::Literal { .. } | Raw::Least { .. } => Ok(()),
@@ -52,7 +54,8 @@ pub fn add_test(
     test: &Test<Name>,
     mentions: &mut Vec<Mention>,
 ) -> Result<(), NoMemory>
-    ensures { IfOk result (λ _. mentions.new.items ≡ mentions.old.items ++ test_mentions test.now (scope_of names.now)) }
+    ensures { IfOk result (λ _. mentions.new.items ≡
+        mentions.old.items ++ test_mentions test.now (scope_of names.now)) }
 {
     match test {
         Test::Signal { at: _, name } => add_name(names, Role::Test, name, mentions),

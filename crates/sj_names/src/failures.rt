@@ -15,7 +15,8 @@ use std::alloc::Global;
 
 impl Least {
     fn add_domain_names(&mut self, domains: &Domains<'_>)
-        ensures { self.new.found ≡ least_of self.old.found (flat_map (flat_map own_failures) (names_in domains.now)) }
+        ensures { self.new.found ≡
+            least_of self.old.found (flat_map (flat_map own_failures) (names_in domains.now)) }
     {
         for i in 0..domains.names.len() {
             self.add_names(&domains.names[i]);
@@ -28,8 +29,10 @@ impl TreeNames {
 
     /// The first failure of the names, by place and then by kind, where there is one.
     pub fn first_failure(&self, alloc: Global) -> Result<Option<Failure>, NoMemory>
-        ensures value { IfOk result (λ o. o ≡ least_of None (failures_of (tree_names_of self.now))) }
-        ensures least { IfOk result (λ o. MatchOption o (failures_of (tree_names_of self.now) ≡ []) (λ f. IsLeast (failures_of (tree_names_of self.now)) f)) }
+        ensures value { IfOk result (λ o. o ≡
+            least_of None (failures_of (tree_names_of self.now))) }
+        ensures least { IfOk result (λ o. MatchOption o (failures_of (tree_names_of self.now) ≡
+            []) (λ f. IsLeast (failures_of (tree_names_of self.now)) f)) }
     {
         let domains = Domains::new(alloc, &self.domains)?;
         let signals = places_of(alloc, Group::PortSignal, &self.ports)?;

@@ -65,7 +65,8 @@ impl Least {
         owned: &[u32],
         mentions: &[Mention],
     ) -> Result<(), NoMemory>
-        ensures { IfOk result (λ _. self.new.found ≡ least_of self.old.found (limit_failures owned.now mentions.now)) }
+        ensures { IfOk result (λ _. self.new.found ≡
+            least_of self.old.found (limit_failures owned.now mentions.now)) }
     {
         let signals = signals_of(alloc, owned, mentions)?;
         let variables = places_of(alloc, Group::Variable, mentions)?;
@@ -81,7 +82,9 @@ impl Least {
         domains: &Domains<'_>,
         places: &[u32],
     ) -> Result<(), NoMemory>
-        ensures { IfOk result (λ _. self.new.found ≡ least_of self.old.found (domain_limit_failures (names_in domains.now) places.now 0 (names_in domains.now))) }
+        ensures { IfOk result (λ _. self.new.found ≡
+            least_of self.old.found
+            (domain_limit_failures (names_in domains.now) places.now 0 (names_in domains.now))) }
     {
         let owned = domains.owned_places(alloc, places)?;
         for i in 0..domains.names.len() {

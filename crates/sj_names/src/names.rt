@@ -88,7 +88,9 @@ impl<'a> Names<'a> {
 
     /// The number of what the name stands for, or of what it declares.
     pub fn number(&self, role: Role, name: &[u8]) -> u32
-        ensures { result ≡ number_where role (meaning_in (scope_of self.now).visible name.now) (scope_of self.now).counts }
+        ensures { result ≡
+            number_where role (meaning_in (scope_of self.now).visible name.now)
+            (scope_of self.now).counts }
     {
         match self.meaning(name) {
             Some(meaning) => meaning.number,
@@ -121,7 +123,8 @@ impl<'a> Names<'a> {
 
     /// Ends the scope of the name that was declared last.
     fn forget(&mut self)
-        ensures { scope_of self.new ≡ closed_at (length (scope_of self.old).visible - 1) (scope_of self.old) }
+        ensures { scope_of self.new ≡
+            closed_at (length (scope_of self.old).visible - 1) (scope_of self.old) }
     {
         if let Some(last) = self.visible.pop() {
             self.meanings.remove(last.name);

@@ -136,7 +136,8 @@ fn signal<'a>(
     signal: &'a Signal<Name>,
 ) -> Result<Signal<u32>, NoMemory>
     ensures value { IfOk result (λ s. s ≡ numbered_signal sort signal.now (scope_of names.old)) }
-    ensures scope { IfOk result (λ _. scope_of names.new ≡ declare sort signal.now.name.text (scope_of names.old)) }
+    ensures scope { IfOk result (λ _. scope_of names.new ≡
+        declare sort signal.now.name.text (scope_of names.old)) }
 {
     let number = number(names, Role::Declare(sort), &signal.name);
     names.declare(sort, signal.name.text.bytes())?;
@@ -154,8 +155,10 @@ fn statement<'a>(
     names: &mut Names<'a>,
     statement: &'a Stmt<Name, Raw<Name>>,
 ) -> Result<Stmt<u32, Raw<Entry>>, NoMemory>
-    ensures value { IfOk result (λ t. t ≡ (numbered_stmt statement.now (scope_of names.old)).value) }
-    ensures scope { IfOk result (λ _. scope_of names.new ≡ (numbered_stmt statement.now (scope_of names.old)).scope) }
+    ensures value { IfOk result (λ t. t ≡
+        (numbered_stmt statement.now (scope_of names.old)).value) }
+    ensures scope { IfOk result (λ _. scope_of names.new ≡
+        (numbered_stmt statement.now (scope_of names.old)).scope) }
 {
     let form = form(alloc, names, &statement.form)?;
     Ok(Stmt {
@@ -171,7 +174,8 @@ fn form<'a>(
     form: &'a Form<Name, Raw<Name>>,
 ) -> Result<Form<u32, Raw<Entry>>, NoMemory>
     ensures value { IfOk result (λ f. f ≡ (numbered_form form.now (scope_of names.old)).value) }
-    ensures scope { IfOk result (λ _. scope_of names.new ≡ (numbered_form form.now (scope_of names.old)).scope) }
+    ensures scope { IfOk result (λ _. scope_of names.new ≡
+        (numbered_form form.now (scope_of names.old)).scope) }
 {
     match form {
         Form::Empty => Ok(Form::Empty),
@@ -352,7 +356,8 @@ fn block_where_given<'a>(
     given: &'a Option<Block<Name, Raw<Name>>>,
 ) -> Result<Option<Block<u32, Raw<Entry>>>, NoMemory>
     ensures value { IfOk result (λ o. o ≡ (numbered_other given.now (scope_of names.old)).value) }
-    ensures scope { IfOk result (λ _. scope_of names.new ≡ (numbered_other given.now (scope_of names.old)).scope) }
+    ensures scope { IfOk result (λ _. scope_of names.new ≡
+        (numbered_other given.now (scope_of names.old)).scope) }
 {
     match given {
         Some(given) => Ok(Some(block(alloc, names, given)?)),
@@ -366,8 +371,10 @@ fn blocks<'a>(
     names: &mut Names<'a>,
     blocks: &'a [Block<Name, Raw<Name>>],
 ) -> Result<Items<Block<u32, Raw<Entry>>>, NoMemory>
-    ensures value { IfOk result (λ bs. bs ≡ (blocks_in_order (map numbered_block blocks.now) (scope_of names.old)).value) }
-    ensures scope { IfOk result (λ _. scope_of names.new ≡ (blocks_in_order (map numbered_block blocks.now) (scope_of names.old)).scope) }
+    ensures value { IfOk result (λ bs. bs ≡
+        (blocks_in_order (map numbered_block blocks.now) (scope_of names.old)).value) }
+    ensures scope { IfOk result (λ _. scope_of names.new ≡
+        (blocks_in_order (map numbered_block blocks.now) (scope_of names.old)).scope) }
 {
     let mut numbered = Vec::new(alloc);
     for part in blocks {
@@ -384,7 +391,8 @@ fn block<'a>(
     block: &'a Block<Name, Raw<Name>>,
 ) -> Result<Block<u32, Raw<Entry>>, NoMemory>
     ensures value { IfOk result (λ b. b ≡ (numbered_block block.now (scope_of names.old)).value) }
-    ensures scope { IfOk result (λ _. scope_of names.new ≡ (numbered_block block.now (scope_of names.old)).scope) }
+    ensures scope { IfOk result (λ _. scope_of names.new ≡
+        (numbered_block block.now (scope_of names.old)).scope) }
 {
     let visible = names.len();
     let statements = statements(alloc, names, block.statements.as_slice())?;
@@ -401,8 +409,10 @@ fn statements<'a>(
     names: &mut Names<'a>,
     statements: &'a [Stmt<Name, Raw<Name>>],
 ) -> Result<Items<Stmt<u32, Raw<Entry>>>, NoMemory>
-    ensures value { IfOk result (λ ts. ts ≡ (stmts_in_order (map numbered_stmt statements.now) (scope_of names.old)).value) }
-    ensures scope { IfOk result (λ _. scope_of names.new ≡ (stmts_in_order (map numbered_stmt statements.now) (scope_of names.old)).scope) }
+    ensures value { IfOk result (λ ts. ts ≡
+        (stmts_in_order (map numbered_stmt statements.now) (scope_of names.old)).value) }
+    ensures scope { IfOk result (λ _. scope_of names.new ≡
+        (stmts_in_order (map numbered_stmt statements.now) (scope_of names.old)).scope) }
 {
     let mut numbered = Vec::new(alloc);
     for part in statements {
@@ -413,7 +423,8 @@ fn statements<'a>(
 
 fn port<'a>(names: &mut Names<'a>, port: &'a Port<Name>) -> Result<Port<u32>, NoMemory>
     ensures value { IfOk result (λ p. p ≡ (numbered_port port.now (scope_of names.old)).value) }
-    ensures scope { IfOk result (λ _. scope_of names.new ≡ (numbered_port port.now (scope_of names.old)).scope) }
+    ensures scope { IfOk result (λ _. scope_of names.new ≡
+        (numbered_port port.now (scope_of names.old)).scope) }
 {
     match port {
         Port::Signal(port) => {
@@ -441,7 +452,8 @@ fn ports<'a>(
     ports: &'a [Port<Name>],
 ) -> Result<Items<Port<u32>>, NoMemory>
     ensures value { IfOk result (λ ps. ps ≡ (numbered_ports ports.now (scope_of names.old)).value) }
-    ensures scope { IfOk result (λ _. scope_of names.new ≡ (numbered_ports ports.now (scope_of names.old)).scope) }
+    ensures scope { IfOk result (λ _. scope_of names.new ≡
+        (numbered_ports ports.now (scope_of names.old)).scope) }
 {
     let mut numbered = Vec::new(alloc);
     for part in ports {

@@ -20,7 +20,9 @@ impl Domains<'_> {
 
 fn push_at(lists: &mut Vec<Vec<u32>>, index: usize, at: u32) -> Result<(), NoMemory>
     requires { index < length (place_lists lists.old.items) }
-    ensures { IfOk result (λ _. place_lists lists.new.items ≡ set (place_lists lists.old.items) index (get_or (place_lists lists.old.items) index [] ++ at ∷ [])) }
+    ensures { IfOk result (λ _. place_lists lists.new.items ≡
+        set (place_lists lists.old.items) index (get_or (place_lists lists.old.items) index [] ++
+        at ∷ [])) }
 {
     lists[index].push(at)?;
     Ok(())
@@ -28,7 +30,8 @@ fn push_at(lists: &mut Vec<Vec<u32>>, index: usize, at: u32) -> Result<(), NoMem
 
 /// Adds the place to the list of this number, where there is one.
 fn add_place(lists: &mut Vec<Vec<u32>>, index: usize, at: u32) -> Result<(), NoMemory>
-    ensures { IfOk result (λ _. place_lists lists.new.items ≡ with_place (place_lists lists.old.items) index at) }
+    ensures { IfOk result (λ _. place_lists lists.new.items ≡
+        with_place (place_lists lists.old.items) index at) }
 {
     if index < lists.len() {
         push_at(lists, index, at)?;
@@ -50,7 +53,8 @@ fn empty_lists(alloc: Global, count: usize) -> Result<Vec<Vec<u32>>, NoMemory>
 impl Domains<'_> {
     /// For each domain those of these places of interface signals that belong to it.
     pub fn owned_places(&self, alloc: Global, places: &[u32]) -> Result<Vec<Vec<u32>>, NoMemory>
-        ensures { IfOk result (λ lists. AreOwned (names_in self.now) places.now (place_lists lists.items)) }
+        ensures { IfOk result (λ lists. AreOwned (names_in self.now) places.now
+            (place_lists lists.items)) }
     {
         let mut lists = empty_lists(alloc, self.names.len())?;
         for i in 0..places.len() {

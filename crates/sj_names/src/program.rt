@@ -39,8 +39,10 @@ fn domain_names<'a>(
     visible: Names<'a>,
     domain: &'a Block<Name, Raw<Name>>,
 ) -> Result<PartNames<'a>, NoMemory>
-    ensures scope { IfOk result (λ part. scope_of part.visible ≡ (block_part domain.now (scope_of visible.entry)).scope) }
-    ensures mentions { IfOk result (λ part. part.mentions.items ≡ (block_part domain.now (scope_of visible.entry)).mentions) }
+    ensures scope { IfOk result (λ part. scope_of part.visible ≡
+        (block_part domain.now (scope_of visible.entry)).scope) }
+    ensures mentions { IfOk result (λ part. part.mentions.items ≡
+        (block_part domain.now (scope_of visible.entry)).mentions) }
 {
     let mut reader = Reader {
         names: visible,
@@ -55,7 +57,8 @@ fn domain_names<'a>(
 
 fn port_names<'a>(alloc: Global, tree: &'a Tree<Name, Raw<Name>>) -> Result<PartNames<'a>, NoMemory>
     ensures scope { IfOk result (λ part. scope_of part.visible ≡ (interface_names tree.now).scope) }
-    ensures mentions { IfOk result (λ part. part.mentions.items ≡ (interface_names tree.now).mentions) }
+    ensures mentions { IfOk result (λ part. part.mentions.items ≡
+        (interface_names tree.now).mentions) }
 {
     let mut reader = Reader {
         names: Names::new(alloc),

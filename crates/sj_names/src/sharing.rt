@@ -11,7 +11,10 @@ use crate::mention::{Mention, Use};
 
 impl Least {
     fn add_shared_name(&mut self, domains: &Domains<'_>, domain: usize, mention: &Mention)
-        ensures { self.new.found ≡ least_of self.old.found (shared_failure (take domain (names_in domains.now)) mention.now.at (number_in PortSignal mention.now)) }
+        ensures { self.new.found ≡
+            least_of self.old.found
+            (shared_failure (take domain (names_in domains.now)) mention.now.at
+            (number_in PortSignal mention.now)) }
     {
         match mention.number(Use::PortSignal) {
             None => {}
@@ -23,7 +26,10 @@ impl Least {
     }
 
     fn add_shared_names(&mut self, domains: &Domains<'_>, domain: usize, mentions: &[Mention])
-        ensures { self.new.found ≡ least_of self.old.found (flat_map (λ m. shared_failure (take domain (names_in domains.now)) m.at (number_in PortSignal m)) mentions.now) }
+        ensures { self.new.found ≡
+            least_of self.old.found
+            (flat_map (λ m. shared_failure (take domain (names_in domains.now)) m.at
+            (number_in PortSignal m)) mentions.now) }
     {
         for mention in mentions {
             self.add_shared_name(domains, domain, mention);
@@ -32,7 +38,8 @@ impl Least {
 
     /// The interface signals that an earlier domain mentions.
     pub fn add_shared(&mut self, domains: &Domains<'_>)
-        ensures { self.new.found ≡ least_of self.old.found (shared_failures [] (names_in domains.now)) }
+        ensures { self.new.found ≡
+            least_of self.old.found (shared_failures [] (names_in domains.now)) }
     {
         for i in 0..domains.names.len() {
             self.add_shared_names(domains, i, &domains.names[i]);

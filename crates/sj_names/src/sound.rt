@@ -26,10 +26,13 @@ pub fn sound_tables(tree: &Tree<Name, Raw<Name>>)
     requires sound { failures_of (names_of_tree tree.now) ≡ [] }
     requires some { 1 ≤ length tree.now.domains }
     ensures limits { is_within_limits (tables_of_tree tree.now) (length tree.now.domains) ≡ true }
-    ensures signals { list_all (has_domain (length tree.now.domains)) (tables_of_tree tree.now).signals ≡ true }
+    ensures signals { list_all (has_domain (length tree.now.domains))
+        (tables_of_tree tree.now).signals ≡ true }
     ensures order { interface_comes_first (tables_of_tree tree.now).signals ≡ true }
-    ensures channels { list_all (is_channel_entry (length tree.now.domains)) (tables_of_tree tree.now).channels ≡ true }
-    ensures variables { list_all (is_variable_entry (length tree.now.domains)) (tables_of_tree tree.now).variables ≡ true }
+    ensures channels { list_all (is_channel_entry (length tree.now.domains))
+        (tables_of_tree tree.now).channels ≡ true }
+    ensures variables { list_all (is_variable_entry (length tree.now.domains))
+        (tables_of_tree tree.now).variables ≡ true }
 {}
 
 /// The names of interface signals and of channels in the tables are names, and no two of them are equal.
@@ -42,7 +45,8 @@ pub fn sound_interface(tree: &Tree<Name, Raw<Name>>)
 /// The numbers of the tree name entries of its tables that may be used where they stand.
 pub fn fitting_names(tree: &Tree<Name, Raw<Name>>)
     requires sound { failures_of (names_of_tree tree.now) ≡ [] }
-    ensures { fits_tree (tables_of_tree tree.now) (entry_rules (tables_of_tree tree.now)) (numbered_tree tree.now) ≡ true }
+    ensures { fits_tree (tables_of_tree tree.now) (entry_rules (tables_of_tree tree.now))
+        (numbered_tree tree.now) ≡ true }
 {}
 
 /// The numbers of a bound tree name entries of its tables that may be used where they stand.

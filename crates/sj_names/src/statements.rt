@@ -27,13 +27,15 @@ impl<'a> Reader<'a> {
     ghost use Rattle.sj_names.specs.ToldNames.{told_of};
 
     fn name(&mut self, role: Role, name: &Name) -> Result<(), NoMemory>
-        ensures { IfOk result (λ _. told_of self.new ≡ behind (told_of self.old) (mentioned role name.now)) }
+        ensures { IfOk result (λ _. told_of self.new ≡
+            behind (told_of self.old) (mentioned role name.now)) }
     {
         add_name(&self.names, role, name, &mut self.mentions)
     }
 
     fn declare(&mut self, sort: Sort, name: &'a Name) -> Result<(), NoMemory>
-        ensures { IfOk result (λ _. told_of self.new ≡ behind (told_of self.old) (declared sort name.now)) }
+        ensures { IfOk result (λ _. told_of self.new ≡
+            behind (told_of self.old) (declared sort name.now)) }
     {
         add_name(&self.names, Role::Declare(sort), name, &mut self.mentions)?;
         self.names.declare(sort, name.text.bytes())
@@ -46,7 +48,8 @@ impl<'a> Reader<'a> {
     }
 
     fn value(&mut self, value: &Option<Raw<Name>>) -> Result<(), NoMemory>
-        ensures { IfOk result (λ _. told_of self.new ≡ behind (told_of self.old) (read_where_given value.now)) }
+        ensures { IfOk result (λ _. told_of self.new ≡
+            behind (told_of self.old) (read_where_given value.now)) }
     {
         match value {
             Some(value) => self.expression(value),
@@ -55,13 +58,15 @@ impl<'a> Reader<'a> {
     }
 
     fn test(&mut self, test: &Test<Name>) -> Result<(), NoMemory>
-        ensures { IfOk result (λ _. told_of self.new ≡ behind (told_of self.old) (tested test.now)) }
+        ensures { IfOk result (λ _. told_of self.new ≡
+            behind (told_of self.old) (tested test.now)) }
     {
         add_test(&self.names, test, &mut self.mentions)
     }
 
     fn variable(&mut self, name: &'a Name, value: &Raw<Name>) -> Result<(), NoMemory>
-        ensures { IfOk result (λ _. told_of self.new ≡ behind (told_of self.old) (new_variable name.now value.now)) }
+        ensures { IfOk result (λ _. told_of self.new ≡
+            behind (told_of self.old) (new_variable name.now value.now)) }
     {
         self.name(Role::Declare(Sort::Variable), name)?;
         self.expression(value)?;
@@ -70,7 +75,8 @@ impl<'a> Reader<'a> {
 
     #[cycle(statements)]
     fn statement(&mut self, statement: &'a Stmt<Name, Raw<Name>>) -> Result<(), NoMemory>
-        ensures { IfOk result (λ _. told_of self.new ≡ behind (told_of self.old) (stmt_part statement.now)) }
+        ensures { IfOk result (λ _. told_of self.new ≡
+            behind (told_of self.old) (stmt_part statement.now)) }
     {
         match &statement.form {
             Form::Empty | Form::Pause | Form::Halt => Ok(()),
@@ -142,7 +148,8 @@ impl<'a> Reader<'a> {
 
     #[cycle(statements)]
     fn other(&mut self, block: &'a Option<Block<Name, Raw<Name>>>) -> Result<(), NoMemory>
-        ensures { IfOk result (λ _. told_of self.new ≡ behind (told_of self.old) (other_part block.now)) }
+        ensures { IfOk result (λ _. told_of self.new ≡
+            behind (told_of self.old) (other_part block.now)) }
     {
         match block {
             Some(block) => self.block(block),
@@ -152,7 +159,8 @@ impl<'a> Reader<'a> {
 
     #[cycle(statements)]
     fn blocks(&mut self, blocks: &'a [Block<Name, Raw<Name>>]) -> Result<(), NoMemory>
-        ensures { IfOk result (λ _. told_of self.new ≡ behind (told_of self.old) (in_order (map (block_part) blocks.now))) }
+        ensures { IfOk result (λ _. told_of self.new ≡
+            behind (told_of self.old) (in_order (map (block_part) blocks.now))) }
     {
         for block in blocks {
             self.block(block)?;
@@ -162,7 +170,8 @@ impl<'a> Reader<'a> {
 
     #[cycle(statements)]
     pub fn block(&mut self, block: &'a Block<Name, Raw<Name>>) -> Result<(), NoMemory>
-        ensures { IfOk result (λ _. told_of self.new ≡ behind (told_of self.old) (block_part block.now)) }
+        ensures { IfOk result (λ _. told_of self.new ≡
+            behind (told_of self.old) (block_part block.now)) }
     {
         let visible = self.names.len();
         self.statements(block.statements.as_slice())?;
@@ -172,7 +181,8 @@ impl<'a> Reader<'a> {
 
     #[cycle(statements)]
     fn statements(&mut self, statements: &'a [Stmt<Name, Raw<Name>>]) -> Result<(), NoMemory>
-        ensures { IfOk result (λ _. told_of self.new ≡ behind (told_of self.old) (in_order (map (stmt_part) statements.now))) }
+        ensures { IfOk result (λ _. told_of self.new ≡
+            behind (told_of self.old) (in_order (map (stmt_part) statements.now))) }
     {
         for statement in statements {
             self.statement(statement)?;
@@ -181,7 +191,8 @@ impl<'a> Reader<'a> {
     }
 
     fn port(&mut self, port: &'a Port<Name>) -> Result<(), NoMemory>
-        ensures { IfOk result (λ _. told_of self.new ≡ behind (told_of self.old) (port_part port.now)) }
+        ensures { IfOk result (λ _. told_of self.new ≡
+            behind (told_of self.old) (port_part port.now)) }
     {
         match port {
             Port::Signal(port) => self.declare(signal_sort(port.direction), &port.signal.name),
@@ -190,7 +201,8 @@ impl<'a> Reader<'a> {
     }
 
     pub fn ports(&mut self, ports: &'a [Port<Name>]) -> Result<(), NoMemory>
-        ensures { IfOk result (λ _. told_of self.new ≡ behind (told_of self.old) (in_order (map port_part ports.now))) }
+        ensures { IfOk result (λ _. told_of self.new ≡
+            behind (told_of self.old) (in_order (map port_part ports.now))) }
     {
         for port in ports {
             self.port(port)?;

@@ -48,7 +48,10 @@ impl PortTables {
         domains: &Domains<'_>,
         port: &SignalPort<Name>,
     ) -> Result<(), NoMemory>
-        ensures signals { IfOk result (λ _. self.new.signals.items ≡ self.old.signals.items ++ port_signals (names_in domains.now) (length self.old.signals.items) (port_is.Signal port.now ∷ [])) }
+        ensures signals { IfOk result (λ _. self.new.signals.items ≡
+            self.old.signals.items ++
+            port_signals (names_in domains.now) (length self.old.signals.items)
+            (port_is.Signal port.now ∷ [])) }
         ensures channels { self.new.channels ≡ self.old.channels }
     {
         let number = number_of(self.signals.len())?;
@@ -65,7 +68,10 @@ impl PortTables {
         port: &ChannelPort<Name>,
     ) -> Result<(), NoMemory>
         ensures signals { self.new.signals ≡ self.old.signals }
-        ensures channels { IfOk result (λ _. self.new.channels.items ≡ self.old.channels.items ++ port_channels (names_in domains.now) (length self.old.channels.items) (port_is.Channel port.now ∷ [])) }
+        ensures channels { IfOk result (λ _. self.new.channels.items ≡
+            self.old.channels.items ++
+            port_channels (names_in domains.now) (length self.old.channels.items)
+            (port_is.Channel port.now ∷ [])) }
     {
         let number = number_of(self.channels.len())?;
         let sender = domains.first_domain(Use::SendingEnd, number)?;
@@ -86,8 +92,12 @@ impl PortTables {
         domains: &Domains<'_>,
         port: &Port<Name>,
     ) -> Result<(), NoMemory>
-        ensures signals { IfOk result (λ _. self.new.signals.items ≡ self.old.signals.items ++ port_signals (names_in domains.now) (length self.old.signals.items) (port.now ∷ [])) }
-        ensures channels { IfOk result (λ _. self.new.channels.items ≡ self.old.channels.items ++ port_channels (names_in domains.now) (length self.old.channels.items) (port.now ∷ [])) }
+        ensures signals { IfOk result (λ _. self.new.signals.items ≡
+            self.old.signals.items ++
+            port_signals (names_in domains.now) (length self.old.signals.items) (port.now ∷ [])) }
+        ensures channels { IfOk result (λ _. self.new.channels.items ≡
+            self.old.channels.items ++
+            port_channels (names_in domains.now) (length self.old.channels.items) (port.now ∷ [])) }
     {
         match port {
             Port::Signal(port) => self.add_signal(alloc, domains, port),
@@ -100,8 +110,10 @@ impl PortTables {
         domains: &Domains<'_>,
         ports: &[Port<Name>],
     ) -> Result<PortTables, NoMemory>
-        ensures signals { IfOk result (λ tables. tables.signals.items ≡ port_signals (names_in domains.now) 0 ports.now) }
-        ensures channels { IfOk result (λ tables. tables.channels.items ≡ port_channels (names_in domains.now) 0 ports.now) }
+        ensures signals { IfOk result (λ tables. tables.signals.items ≡
+            port_signals (names_in domains.now) 0 ports.now) }
+        ensures channels { IfOk result (λ tables. tables.channels.items ≡
+            port_channels (names_in domains.now) 0 ports.now) }
     {
         let mut tables = PortTables {
             signals: Vec::new(alloc),

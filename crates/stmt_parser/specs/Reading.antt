@@ -32,7 +32,8 @@ use Rattle.expr_parser.specs.Reading.{IsFirst, Fails}
 use Rattle.stmt_parser.specs.definitions.Parsing.{IsRefused, IsTooDeep}
 
 -- whatever is to come after them, these symbols are read up to the rest, with so many levels and operators before and after
-pub record Goes (front : List Symbol) (ts : List Token) (d n : ℕ) (rest : List Token) (e m : ℕ) : Type 0 where
+pub record Goes (front : List Symbol) (ts : List Token) (d n : ℕ) (rest : List Token) (e m : ℕ) :
+    Type 0 where
   pub goes : (k : List Symbol) → walk (front ++ k) d n ts ≡ walk k e m rest
 
 -- the first token isn't of the class, which is where the reading stops
@@ -48,27 +49,44 @@ tail_of start.Emit = T Name ∷ ValuePart ∷ T (Mark mark.Semicolon) ∷ []
 tail_of start.Signal = T Name ∷ T (Mark mark.Semicolon) ∷ []
 tail_of (start.Kind kind) = AfterKind ∷ []
 tail_of start.Name = AssignSign ∷ Operand ∷ More ∷ T (Mark mark.Semicolon) ∷ []
-tail_of start.If = T (Mark mark.OpenParen) ∷ Operand ∷ More ∷ T (Mark mark.CloseParen) ∷ InBraces ∷ ElsePart ∷ []
-tail_of start.Present = T (Mark mark.OpenParen) ∷ TestOperand ∷ MoreTest ∷ T (Mark mark.CloseParen) ∷ InBraces ∷ ElsePart ∷ []
-tail_of start.While = T (Mark mark.OpenParen) ∷ T (Reserved word.True) ∷ T (Mark mark.CloseParen) ∷ InBraces ∷ []
-tail_of start.Weak = T (Reserved word.Abort) ∷ T (Mark mark.OpenParen) ∷ ImmediatePart ∷ TestOperand ∷ MoreTest ∷ T (Mark mark.CloseParen) ∷ InBraces ∷ []
-tail_of start.Guarded = T (Mark mark.OpenParen) ∷ ImmediatePart ∷ TestOperand ∷ MoreTest ∷ T (Mark mark.CloseParen) ∷ InBraces ∷ []
+tail_of start.If =
+    T (Mark mark.OpenParen) ∷ Operand ∷ More ∷ T (Mark mark.CloseParen) ∷ InBraces ∷ ElsePart ∷ []
+tail_of start.Present =
+    T (Mark mark.OpenParen) ∷ TestOperand ∷ MoreTest ∷ T (Mark mark.CloseParen) ∷ InBraces ∷
+    ElsePart ∷ []
+tail_of start.While =
+    T (Mark mark.OpenParen) ∷ T (Reserved word.True) ∷ T (Mark mark.CloseParen) ∷ InBraces ∷ []
+tail_of start.Weak =
+    T (Reserved word.Abort) ∷ T (Mark mark.OpenParen) ∷ ImmediatePart ∷ TestOperand ∷ MoreTest ∷
+    T (Mark mark.CloseParen) ∷ InBraces ∷ []
+tail_of start.Guarded =
+    T (Mark mark.OpenParen) ∷ ImmediatePart ∷ TestOperand ∷ MoreTest ∷ T (Mark mark.CloseParen) ∷
+    InBraces ∷ []
 tail_of start.Trap = T (Mark mark.OpenParen) ∷ T Name ∷ T (Mark mark.CloseParen) ∷ InBraces ∷ []
-tail_of start.Exit = T (Mark mark.OpenParen) ∷ T Name ∷ T (Mark mark.CloseParen) ∷ T (Mark mark.Semicolon) ∷ []
-tail_of start.Send = T Name ∷ T (Mark mark.OpenParen) ∷ Operand ∷ More ∷ T (Mark mark.CloseParen) ∷ T (Mark mark.Semicolon) ∷ []
+tail_of start.Exit =
+    T (Mark mark.OpenParen) ∷ T Name ∷ T (Mark mark.CloseParen) ∷ T (Mark mark.Semicolon) ∷ []
+tail_of start.Send =
+    T Name ∷ T (Mark mark.OpenParen) ∷ Operand ∷ More ∷ T (Mark mark.CloseParen) ∷
+    T (Mark mark.Semicolon) ∷ []
 tail_of start.Receive = T Name ∷ T (Mark mark.Semicolon) ∷ []
-tail_of start.Await = T (Mark mark.OpenParen) ∷ ImmediatePart ∷ TestOperand ∷ MoreTest ∷ T (Mark mark.CloseParen) ∷ T (Mark mark.Semicolon) ∷ []
-tail_of start.Loop = InBraces ∷ T (Reserved word.Each) ∷ T (Mark mark.OpenParen) ∷ TestOperand ∷ MoreTest ∷ T (Mark mark.CloseParen) ∷ T (Mark mark.Semicolon) ∷ []
+tail_of start.Await =
+    T (Mark mark.OpenParen) ∷ ImmediatePart ∷ TestOperand ∷ MoreTest ∷ T (Mark mark.CloseParen) ∷
+    T (Mark mark.Semicolon) ∷ []
+tail_of start.Loop =
+    InBraces ∷ T (Reserved word.Each) ∷ T (Mark mark.OpenParen) ∷ TestOperand ∷ MoreTest ∷
+    T (Mark mark.CloseParen) ∷ T (Mark mark.Semicolon) ∷ []
 tail_of start.Nothing = []
 
 -- NAME
-pub record ReadsName (source : List ℕ) (ts : List Token) (name : ast_name.Name) (rest : List Token) : Type 0 where
+pub record ReadsName (source : List ℕ) (ts : List Token) (name : ast_name.Name) (rest : List Token)
+    : Type 0 where
   pub token : Token
   pub first : IsFirst Name ts token rest
   pub stands : name ≡ name_of source token
 
 -- `(` NAME `)`
-pub record ReadsNamed (source : List ℕ) (ts : List Token) (d : ℕ) (name : ast_name.Name) (rest : List Token) : Type 0 where
+pub record ReadsNamed (source : List ℕ) (ts : List Token) (d : ℕ) (name : ast_name.Name)
+    (rest : List Token) : Type 0 where
   pub open_paren : Token
   pub token : Token
   pub close_paren : Token
@@ -80,7 +98,8 @@ pub record ReadsNamed (source : List ℕ) (ts : List Token) (d : ℕ) (name : as
   pub goes : Goes (T (Mark mark.OpenParen) ∷ T Name ∷ T (Mark mark.CloseParen) ∷ []) ts d 0 rest d 0
 
 -- NAME `;`
-pub record ReadsNameEnd (source : List ℕ) (ts : List Token) (d : ℕ) (name : ast_name.Name) (rest : List Token) : Type 0 where
+pub record ReadsNameEnd (source : List ℕ) (ts : List Token) (d : ℕ) (name : ast_name.Name)
+    (rest : List Token) : Type 0 where
   pub token : Token
   pub semicolon : Token
   pub named : IsName token
@@ -90,7 +109,8 @@ pub record ReadsNameEnd (source : List ℕ) (ts : List Token) (d : ℕ) (name : 
   pub goes : Goes (T Name ∷ T (Mark mark.Semicolon) ∷ []) ts d 0 rest d 0
 
 -- the sign of a combination
-pub record ReadsCombineSign (ts : List Token) (d : ℕ) (op : CombineOperator) (at : ℕ) (rest : List Token) : Type 0 where
+pub record ReadsCombineSign (ts : List Token) (d : ℕ) (op : CombineOperator) (at : ℕ)
+    (rest : List Token) : Type 0 where
   pub token : Token
   pub sign_is : combine_of token.class ≡ Some op
   pub place : at ≡ token.start
@@ -99,7 +119,8 @@ pub record ReadsCombineSign (ts : List Token) (d : ℕ) (op : CombineOperator) (
   pub goes : Goes (CombineSign ∷ []) ts d 0 rest d after
 
 -- the sign of an assignment
-pub record ReadsAssignSign (ts : List Token) (d : ℕ) (op : Option Op2) (at : ℕ) (rest : List Token) : Type 0 where
+pub record ReadsAssignSign (ts : List Token) (d : ℕ) (op : Option Op2) (at : ℕ) (rest : List Token)
+    : Type 0 where
   pub token : Token
   pub sign_is : assign_of token.class ≡ Some op
   pub place : at ≡ token.start
@@ -107,7 +128,8 @@ pub record ReadsAssignSign (ts : List Token) (d : ℕ) (op : Option Op2) (at : �
   pub goes : Goes (AssignSign ∷ []) ts d 0 rest d 0
 
 -- an expression, which no operator follows
-pub record ReadsValue (source : List ℕ) (ts : List Token) (d : ℕ) (tree : raw.Raw ast_name.Name) (rest : List Token) : Type 0 where
+pub record ReadsValue (source : List ℕ) (ts : List Token) (d : ℕ) (tree : raw.Raw ast_name.Name)
+    (rest : List Token) : Type 0 where
   pub expr : Expr
   pub is_expr : IsExpr expr
   pub stands : tree ≡ raw_of source expr
@@ -117,7 +139,8 @@ pub record ReadsValue (source : List ℕ) (ts : List Token) (d : ℕ) (tree : ra
   pub shorter : length rest < length ts
 
 -- a test, which no operator follows
-pub record ReadsTest (source : List ℕ) (ts : List Token) (d : ℕ) (tree : signal_test.Test ast_name.Name) (rest : List Token) : Type 0 where
+pub record ReadsTest (source : List ℕ) (ts : List Token) (d : ℕ)
+    (tree : signal_test.Test ast_name.Name) (rest : List Token) : Type 0 where
   pub test : Test
   pub is_test : IsTest test
   pub stands : tree ≡ test_of source test
@@ -127,7 +150,8 @@ pub record ReadsTest (source : List ℕ) (ts : List Token) (d : ℕ) (tree : sig
   pub shorter : length rest < length ts
 
 -- an expression and `)`, one level deeper
-pub record ReadsClosed (source : List ℕ) (ts : List Token) (d : ℕ) (tree : raw.Raw ast_name.Name) (rest : List Token) : Type 0 where
+pub record ReadsClosed (source : List ℕ) (ts : List Token) (d : ℕ) (tree : raw.Raw ast_name.Name)
+    (rest : List Token) : Type 0 where
   pub expr : Expr
   pub close_paren : Token
   pub is_expr : IsExpr expr
@@ -139,7 +163,8 @@ pub record ReadsClosed (source : List ℕ) (ts : List Token) (d : ℕ) (tree : r
   pub shorter : length rest < length ts
 
 -- a test and `)`, one level deeper
-pub record ReadsClosedTest (source : List ℕ) (ts : List Token) (d : ℕ) (tree : signal_test.Test ast_name.Name) (rest : List Token) : Type 0 where
+pub record ReadsClosedTest (source : List ℕ) (ts : List Token) (d : ℕ)
+    (tree : signal_test.Test ast_name.Name) (rest : List Token) : Type 0 where
   pub test : Test
   pub close_paren : Token
   pub is_test : IsTest test
@@ -151,7 +176,8 @@ pub record ReadsClosedTest (source : List ℕ) (ts : List Token) (d : ℕ) (tree
   pub shorter : length rest < length ts
 
 -- `(` expression `)`
-pub record ReadsParens (source : List ℕ) (ts : List Token) (d : ℕ) (tree : raw.Raw ast_name.Name) (rest : List Token) : Type 0 where
+pub record ReadsParens (source : List ℕ) (ts : List Token) (d : ℕ) (tree : raw.Raw ast_name.Name)
+    (rest : List Token) : Type 0 where
   pub open_paren : Token
   pub expr : Expr
   pub close_paren : Token
@@ -161,11 +187,13 @@ pub record ReadsParens (source : List ℕ) (ts : List Token) (d : ℕ) (tree : r
   pub stands : tree ≡ raw_of source expr
   pub printed : ts ≡ open_paren ∷ print expr (close_paren ∷ rest)
   pub after : ℕ
-  pub goes : Goes (T (Mark mark.OpenParen) ∷ Operand ∷ More ∷ T (Mark mark.CloseParen) ∷ []) ts d 0 rest d after
+  pub goes : Goes (T (Mark mark.OpenParen) ∷ Operand ∷ More ∷ T (Mark mark.CloseParen) ∷
+      []) ts d 0 rest d after
   pub shorter : length rest < length ts
 
 -- `(` test `)`
-pub record ReadsTestParens (source : List ℕ) (ts : List Token) (d : ℕ) (tree : signal_test.Test ast_name.Name) (rest : List Token) : Type 0 where
+pub record ReadsTestParens (source : List ℕ) (ts : List Token) (d : ℕ)
+    (tree : signal_test.Test ast_name.Name) (rest : List Token) : Type 0 where
   pub open_paren : Token
   pub test : Test
   pub close_paren : Token
@@ -175,18 +203,21 @@ pub record ReadsTestParens (source : List ℕ) (ts : List Token) (d : ℕ) (tree
   pub stands : tree ≡ test_of source test
   pub printed : ts ≡ open_paren ∷ print_test test (close_paren ∷ rest)
   pub after : ℕ
-  pub goes : Goes (T (Mark mark.OpenParen) ∷ TestOperand ∷ MoreTest ∷ T (Mark mark.CloseParen) ∷ []) ts d 0 rest d after
+  pub goes : Goes (T (Mark mark.OpenParen) ∷ TestOperand ∷ MoreTest ∷ T (Mark mark.CloseParen) ∷
+      []) ts d 0 rest d after
   pub shorter : length rest < length ts
 
 -- `(` [ `immediate` ] test `)`
-pub record ReadsGuard (source : List ℕ) (ts : List Token) (d : ℕ) (at_once : Bool) (tree : signal_test.Test ast_name.Name) (rest : List Token) : Type 0 where
+pub record ReadsGuard (source : List ℕ) (ts : List Token) (d : ℕ) (at_once : Bool)
+    (tree : signal_test.Test ast_name.Name) (rest : List Token) : Type 0 where
   pub guard : Guard
   pub is_guard : IsGuard guard
   pub once : at_once ≡ is_at_once guard
   pub stands : tree ≡ guard_test source guard
   pub printed : ts ≡ print_guard guard rest
   pub after : ℕ
-  pub goes : Goes (T (Mark mark.OpenParen) ∷ ImmediatePart ∷ TestOperand ∷ MoreTest ∷ T (Mark mark.CloseParen) ∷ []) ts d 0 rest d after
+  pub goes : Goes (T (Mark mark.OpenParen) ∷ ImmediatePart ∷ TestOperand ∷ MoreTest ∷
+      T (Mark mark.CloseParen) ∷ []) ts d 0 rest d after
   pub shorter : length rest < length ts
 
 -- `(` `true` `)`
@@ -198,10 +229,12 @@ pub record ReadsTrue (ts : List Token) (d : ℕ) (rest : List Token) : Type 0 wh
   pub holds : IsWord word.True truth
   pub closes : IsMark mark.CloseParen close_paren
   pub printed : ts ≡ open_paren ∷ truth ∷ close_paren ∷ rest
-  pub goes : Goes (T (Mark mark.OpenParen) ∷ T (Reserved word.True) ∷ T (Mark mark.CloseParen) ∷ []) ts d 0 rest d 0
+  pub goes : Goes (T (Mark mark.OpenParen) ∷ T (Reserved word.True) ∷ T (Mark mark.CloseParen) ∷
+      []) ts d 0 rest d 0
 
 -- [ `(` expression `)` ]
-pub record ReadsGiven (source : List ℕ) (ts : List Token) (d : ℕ) (found : Option (raw.Raw ast_name.Name)) (rest : List Token) : Type 0 where
+pub record ReadsGiven (source : List ℕ) (ts : List Token) (d : ℕ)
+    (found : Option (raw.Raw ast_name.Name)) (rest : List Token) : Type 0 where
   pub given : Given
   pub is_given : IsGiven given
   pub stands : found ≡ value_of source given
@@ -215,7 +248,8 @@ pub record Skips (s : Symbol) (ts : List Token) : Type 0 where
   pub skips : (k : List Symbol) (d n : ℕ) → walk (s ∷ k) d n ts ≡ walk k d n ts
 
 -- [ `combine` operator ]
-pub record ReadsCombined (ts : List Token) (d : ℕ) (found : Option Combination) (rest : List Token) : Type 0 where
+pub record ReadsCombined (ts : List Token) (d : ℕ) (found : Option Combination) (rest : List Token)
+    : Type 0 where
   pub combined : Combined
   pub is_combined : IsCombined combined
   pub stands : found ≡ combination_of combined
@@ -225,20 +259,27 @@ pub record ReadsCombined (ts : List Token) (d : ℕ) (found : Option Combination
   pub no_longer : length rest ≤ length ts
 
 -- NAME [ `combine` operator ] `;`, behind a kind and `signal`
-pub record ReadsValued (source : List ℕ) (kind : Kind) (ts : List Token) (d : ℕ) (signal : Signal ast_name.Name) (rest : List Token) : Type 0 where
+pub record ReadsValued (source : List ℕ) (kind : Kind) (ts : List Token) (d : ℕ)
+    (signal : Signal ast_name.Name) (rest : List Token) : Type 0 where
   pub token : Token
   pub combined : Combined
   pub semicolon : Token
   pub named : IsName token
   pub is_combined : IsCombined combined
   pub ends : IsMark mark.Semicolon semicolon
-  pub stands : signal ≡ record { at = token.start; name = name_of source token; valued = Some (record { kind = kind; combine = combination_of combined }) }
+  pub stands : signal ≡
+      record {
+        at = token.start;
+        name = name_of source token;
+        valued = Some (record { kind = kind; combine = combination_of combined });
+      }
   pub printed : ts ≡ token ∷ print_combined combined (semicolon ∷ rest)
   pub goes : Goes (T Name ∷ CombinePart ∷ T (Mark mark.Semicolon) ∷ []) ts d 0 rest d 0
   pub no_longer : length rest ≤ length ts
 
 -- a statement behind its first token
-pub record ReadsForm (source : List ℕ) (first : Token) (s : Start) (ts : List Token) (d : ℕ) (tree : SourceStmt) (rest : List Token) : Type 0 where
+pub record ReadsForm (source : List ℕ) (first : Token) (s : Start) (ts : List Token) (d : ℕ)
+    (tree : SourceStmt) (rest : List Token) : Type 0 where
   pub stmt : Stmt
   pub is_stmt : IsStmt stmt
   pub stands : tree ≡ stmt_of source stmt
@@ -260,7 +301,8 @@ abbrev pub begins_statement : List Token → Bool
 begins_statement [] = false
 begins_statement (t ∷ ts) = is_start (start_of t.class)
 
-pub record ReadsStmt (source : List ℕ) (ts : List Token) (d : ℕ) (tree : SourceStmt) (rest : List Token) : Type 0 where
+pub record ReadsStmt (source : List ℕ) (ts : List Token) (d : ℕ) (tree : SourceStmt)
+    (rest : List Token) : Type 0 where
   pub stmt : Stmt
   pub is_stmt : IsStmt stmt
   pub stands : tree ≡ stmt_of source stmt
@@ -269,7 +311,8 @@ pub record ReadsStmt (source : List ℕ) (ts : List Token) (d : ℕ) (tree : Sou
   pub shorter : length rest < length ts
 
 -- statements one after another, at the level in the block
-pub record ReadsStmts (source : List ℕ) (ts : List Token) (d : ℕ) (trees : List SourceStmt) (rest : List Token) : Type 0 where
+pub record ReadsStmts (source : List ℕ) (ts : List Token) (d : ℕ) (trees : List SourceStmt)
+    (rest : List Token) : Type 0 where
   pub stmts : Stmts
   pub are_stmts : IsStmts stmts
   pub stands : trees ≡ stmts_of source stmts
@@ -278,7 +321,8 @@ pub record ReadsStmts (source : List ℕ) (ts : List Token) (d : ℕ) (trees : L
   pub no_longer : length rest ≤ length ts
 
 -- a block behind its `{`
-pub record ReadsInside (source : List ℕ) (ts : List Token) (d : ℕ) (trees : List SourceStmt) (rest : List Token) : Type 0 where
+pub record ReadsInside (source : List ℕ) (ts : List Token) (d : ℕ) (trees : List SourceStmt)
+    (rest : List Token) : Type 0 where
   pub stmts : Stmts
   pub close_brace : Token
   pub are_stmts : IsStmts stmts
@@ -288,7 +332,8 @@ pub record ReadsInside (source : List ℕ) (ts : List Token) (d : ℕ) (trees : 
   pub goes : Goes (Statements ∷ T (Mark mark.CloseBrace) ∷ []) ts (d + 1) 0 rest d 0
   pub shorter : length rest < length ts
 
-pub record ReadsBraces (source : List ℕ) (ts : List Token) (d : ℕ) (tree : SourceBlock) (rest : List Token) : Type 0 where
+pub record ReadsBraces (source : List ℕ) (ts : List Token) (d : ℕ) (tree : SourceBlock)
+    (rest : List Token) : Type 0 where
   pub block : Block
   pub is_block : IsBlock block
   pub stands : tree ≡ block_of source block
@@ -299,7 +344,8 @@ pub record ReadsBraces (source : List ℕ) (ts : List Token) (d : ℕ) (tree : S
 pub record FailsBraces (ts : List Token) (d : ℕ) (s : Stop) : Type 0 where
   pub fails : (k : List Symbol) (m : ℕ) → Fails s (walk (InBraces ∷ k) d m ts)
 
-pub record ReadsOther (source : List ℕ) (ts : List Token) (d : ℕ) (found : Option SourceBlock) (rest : List Token) : Type 0 where
+pub record ReadsOther (source : List ℕ) (ts : List Token) (d : ℕ) (found : Option SourceBlock)
+    (rest : List Token) : Type 0 where
   pub other : Other
   pub is_other : IsOther other
   pub stands : found ≡ other_of source other
@@ -307,7 +353,8 @@ pub record ReadsOther (source : List ℕ) (ts : List Token) (d : ℕ) (found : O
   pub goes : Goes (ElsePart ∷ []) ts d 0 rest d 0
   pub no_longer : length rest ≤ length ts
 
-pub record ReadsOthers (source : List ℕ) (ts : List Token) (m : sign.Mark) (d : ℕ) (trees : List SourceBlock) (rest : List Token) : Type 0 where
+pub record ReadsOthers (source : List ℕ) (ts : List Token) (m : sign.Mark) (d : ℕ)
+    (trees : List SourceBlock) (rest : List Token) : Type 0 where
   pub others : Others
   pub are_others : IsOthers m others
   pub stands : trees ≡ others_of source others
@@ -322,7 +369,8 @@ is_between mark.Beside = true
 is_between _ = false
 
 -- further blocks so far
-pub record ReadsBeside (source : List ℕ) (ts : List Token) (m : sign.Mark) (d : ℕ) (trees : List SourceBlock) (rest : List Token) : Type 0 where
+pub record ReadsBeside (source : List ℕ) (ts : List Token) (m : sign.Mark) (d : ℕ)
+    (trees : List SourceBlock) (rest : List Token) : Type 0 where
   pub others : Others
   pub are_others : IsOthers m others
   pub stands : trees ≡ others_of source others
@@ -335,7 +383,8 @@ begins_port [] = false
 begins_port (t ∷ ts) = has (direction_of t.class) || has (kind_of t.class)
 
 -- a signal's declaration
-pub record ReadsDeclared (source : List ℕ) (ts : List Token) (d : ℕ) (signal : Signal ast_name.Name) (rest : List Token) : Type 0 where
+pub record ReadsDeclared (source : List ℕ) (ts : List Token) (d : ℕ) (signal : Signal ast_name.Name)
+    (rest : List Token) : Type 0 where
   pub declared : Declared
   pub is_declared : IsDeclared declared
   pub stands : signal ≡ signal_of source declared
@@ -343,7 +392,8 @@ pub record ReadsDeclared (source : List ℕ) (ts : List Token) (d : ℕ) (signal
   pub goes : Goes (SignalPart ∷ []) ts d 0 rest d 0
   pub shorter : length rest < length ts
 
-pub record ReadsPort (source : List ℕ) (ts : List Token) (d : ℕ) (tree : port.Port ast_name.Name) (rest : List Token) : Type 0 where
+pub record ReadsPort (source : List ℕ) (ts : List Token) (d : ℕ) (tree : port.Port ast_name.Name)
+    (rest : List Token) : Type 0 where
   pub port : Port
   pub is_port : IsPort port
   pub stands : tree ≡ port_of source port
@@ -352,7 +402,8 @@ pub record ReadsPort (source : List ℕ) (ts : List Token) (d : ℕ) (tree : por
   pub shorter : length rest < length ts
 
 -- ports so far
-pub record ReadsPortsSoFar (source : List ℕ) (ts : List Token) (d : ℕ) (trees : List (port.Port ast_name.Name)) (rest : List Token) : Type 0 where
+pub record ReadsPortsSoFar (source : List ℕ) (ts : List Token) (d : ℕ)
+    (trees : List (port.Port ast_name.Name)) (rest : List Token) : Type 0 where
   pub ports : Ports
   pub are_ports : IsPorts ports
   pub stands : trees ≡ ports_of source ports
@@ -361,12 +412,14 @@ pub record ReadsPortsSoFar (source : List ℕ) (ts : List Token) (d : ℕ) (tree
   pub no_longer : length rest ≤ length ts
 
 -- ports, which no port follows
-pub record ReadsPorts (source : List ℕ) (ts : List Token) (d : ℕ) (trees : List (port.Port ast_name.Name)) (rest : List Token) : Type 0 where
+pub record ReadsPorts (source : List ℕ) (ts : List Token) (d : ℕ)
+    (trees : List (port.Port ast_name.Name)) (rest : List Token) : Type 0 where
   pub front : ReadsPortsSoFar source ts d trees rest
   pub skips : Skips PortList rest
 
 -- `system` `{` `interface` `{` { port } `}`
-pub record ReadsInterface (source : List ℕ) (ts : List Token) (trees : List (port.Port ast_name.Name)) (rest : List Token) : Type 0 where
+pub record ReadsInterface (source : List ℕ) (ts : List Token)
+    (trees : List (port.Port ast_name.Name)) (rest : List Token) : Type 0 where
   pub system : Token
   pub open_system : Token
   pub interface : Token
@@ -380,11 +433,15 @@ pub record ReadsInterface (source : List ℕ) (ts : List Token) (trees : List (p
   pub are_ports : IsPorts ports
   pub closes_ports : IsMark mark.CloseBrace close_ports
   pub stands : trees ≡ ports_of source ports
-  pub printed : ts ≡ system ∷ open_system ∷ interface ∷ open_ports ∷ print_ports ports (close_ports ∷ rest)
-  pub goes : Goes (T (Reserved word.System) ∷ T (Mark mark.OpenBrace) ∷ T (Reserved word.Interface) ∷ T (Mark mark.OpenBrace) ∷ PortList ∷ T (Mark mark.CloseBrace) ∷ []) ts 0 0 rest 1 0
+  pub printed : ts ≡
+      system ∷ open_system ∷ interface ∷ open_ports ∷ print_ports ports (close_ports ∷ rest)
+  pub goes : Goes (T (Reserved word.System) ∷ T (Mark mark.OpenBrace) ∷
+      T (Reserved word.Interface) ∷ T (Mark mark.OpenBrace) ∷ PortList ∷ T (Mark mark.CloseBrace) ∷
+      []) ts 0 0 rest 1 0
 
 -- block { `><` block } `}`
-pub record ReadsDomains (source : List ℕ) (ts : List Token) (trees : List SourceBlock) (rest : List Token) : Type 0 where
+pub record ReadsDomains (source : List ℕ) (ts : List Token) (trees : List SourceBlock)
+    (rest : List Token) : Type 0 where
   pub first : Block
   pub others : Others
   pub close_system : Token
@@ -393,9 +450,11 @@ pub record ReadsDomains (source : List ℕ) (ts : List Token) (trees : List Sour
   pub closes_system : IsMark mark.CloseBrace close_system
   pub stands : trees ≡ block_of source first ∷ others_of source others
   pub printed : ts ≡ print_block first (print_others others (close_system ∷ rest))
-  pub goes : Goes (InBraces ∷ OthersPart mark.Beside ∷ T (Mark mark.CloseBrace) ∷ []) ts 1 0 rest 0 0
+  pub goes : Goes (InBraces ∷ OthersPart mark.Beside ∷ T (Mark mark.CloseBrace) ∷
+      []) ts 1 0 rest 0 0
 
-pub record ReadsProgram (source : List ℕ) (ts : List Token) (tree : Tree ast_name.Name (raw.Raw ast_name.Name)) (rest : List Token) : Type 0 where
+pub record ReadsProgram (source : List ℕ) (ts : List Token)
+    (tree : Tree ast_name.Name (raw.Raw ast_name.Name)) (rest : List Token) : Type 0 where
   pub tree_is : Program
   pub is_program : IsProgram tree_is
   pub stands : tree ≡ tree_of source tree_is

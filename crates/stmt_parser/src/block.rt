@@ -53,7 +53,8 @@ fn begins_statement(tokens: &[Token]) -> bool
 
 /// An `else` that the tokens begin with.
 fn else_at(tokens: &[Token]) -> Option<Read<Token>>
-    ensures { MatchOption result (Skips ElsePart tokens.now) (λ f. IsFirst (class_is.Reserved word.Else) tokens.now f.value f.rest.now) }
+    ensures { MatchOption result (Skips ElsePart tokens.now)
+        (λ f. IsFirst (class_is.Reserved word.Else) tokens.now f.value f.rest.now) }
 {
     match after(tokens, Class::Reserved(Word::Else)) {
         Some(first) => Some(first),
@@ -63,7 +64,8 @@ fn else_at(tokens: &[Token]) -> Option<Read<Token>>
 
 /// The sign before a further block.
 fn beside_at(tokens: &[Token], between: Mark) -> Option<Read<Token>>
-    ensures { MatchOption result (Skips (OthersPart between) tokens.now) (λ f. IsFirst (class_is.Mark between) tokens.now f.value f.rest.now) }
+    ensures { MatchOption result (Skips (OthersPart between) tokens.now)
+        (λ f. IsFirst (class_is.Mark between) tokens.now f.value f.rest.now) }
 {
     match after(tokens, Class::Mark(between)) {
         Some(first) => Some(first),
@@ -79,7 +81,8 @@ pub fn braces<'a>(
     tokens: &'a [Token],
     depth: u32,
 ) -> Result<Read<'a, Block<Name, Raw<Name>>>, Stop<'a>>
-    ensures { MatchResult result (λ r. ReadsBraces source.now tokens.now depth r.value r.rest.now) (λ s. FailsBraces tokens.now depth s) }
+    ensures { MatchResult result (λ r. ReadsBraces source.now tokens.now depth r.value r.rest.now)
+        (λ s. FailsBraces tokens.now depth s) }
 {
     let Some(open) = after(tokens, Class::Mark(Mark::OpenBrace)) else {
         return Err(Stop::Syntax(tokens));
@@ -105,7 +108,9 @@ fn inside<'a>(
     depth: u32,
 ) -> Result<Read<'a, Vec<Stmt<Name, Raw<Name>>>>, Stop<'a>>
     requires { depth < 64 }
-    ensures { MatchResult result (λ r. ReadsInside source.now tokens.now depth r.value.items r.rest.now) (λ s. FailsAt (Statements ∷ T (class_is.Mark mark.CloseBrace) ∷ []) tokens.now (depth + 1) 0 s) }
+    ensures { MatchResult result (λ r. ReadsInside source.now tokens.now depth r.value.items
+        r.rest.now) (λ s. FailsAt (Statements ∷ T (class_is.Mark mark.CloseBrace) ∷
+        []) tokens.now (depth + 1) 0 s) }
 {
     let mut statements = Vec::new(alloc);
     let mut rest = tokens;
@@ -138,7 +143,8 @@ fn statement<'a>(
     depth: u32,
 ) -> Result<Read<'a, Stmt<Name, Raw<Name>>>, Stop<'a>>
     requires { begins_statement tokens.now ≡ true }
-    ensures { MatchResult result (λ r. ReadsStmt source.now tokens.now depth r.value r.rest.now) (λ s. FailsAt (Statements ∷ []) tokens.now depth 0 s) }
+    ensures { MatchResult result (λ r. ReadsStmt source.now tokens.now depth r.value r.rest.now)
+        (λ s. FailsAt (Statements ∷ []) tokens.now depth 0 s) }
 {
     let Some((first, rest)) = tokens.split_first() else {
         unreachable!()
@@ -165,7 +171,8 @@ fn par<'a>(
 ) -> Result<Read<'a, Stmt<Name, Raw<Name>>>, Stop<'a>>
     requires is { tokens.now ≡ first.now ∷ rest.now }
     requires role { start_of first.now.class ≡ start.Braces }
-    ensures { MatchResult result (λ r. ReadsStmt source.now tokens.now depth r.value r.rest.now) (λ s. FailsAt (Statements ∷ []) tokens.now depth 0 s) }
+    ensures { MatchResult result (λ r. ReadsStmt source.now tokens.now depth r.value r.rest.now)
+        (λ s. FailsAt (Statements ∷ []) tokens.now depth 0 s) }
 {
     match braces(alloc, source, tokens, depth) {
         Ok(read) => match others(alloc, source, read.rest, Mark::Either, depth) {
@@ -197,7 +204,8 @@ fn form<'a>(
 ) -> Result<Read<'a, Stmt<Name, Raw<Name>>>, Stop<'a>>
     requires role { start_of first.now.class ≡ start }
     requires form { is_form start ≡ true }
-    ensures { MatchResult result (λ r. ReadsForm source.now first.now start rest.now depth r.value r.rest.now) (λ s. FailsAt (tail_of start) rest.now depth 0 s) }
+    ensures { MatchResult result (λ r. ReadsForm source.now first.now start rest.now depth r.value
+        r.rest.now) (λ s. FailsAt (tail_of start) rest.now depth 0 s) }
 {
     match start {
         Start::Empty => Ok(Read {
@@ -235,7 +243,8 @@ fn branch<'a>(
     depth: u32,
 ) -> Result<Read<'a, Stmt<Name, Raw<Name>>>, Stop<'a>>
     requires { start_of first.now.class ≡ start.If }
-    ensures { MatchResult result (λ r. ReadsForm source.now first.now start.If rest.now depth r.value r.rest.now) (λ s. FailsAt (tail_of start.If) rest.now depth 0 s) }
+    ensures { MatchResult result (λ r. ReadsForm source.now first.now start.If rest.now depth
+        r.value r.rest.now) (λ s. FailsAt (tail_of start.If) rest.now depth 0 s) }
 {
     match read_parens(alloc, source, rest, depth) {
         Ok(cond) => match braces(alloc, source, cond.rest, depth) {
@@ -269,7 +278,8 @@ fn present<'a>(
     depth: u32,
 ) -> Result<Read<'a, Stmt<Name, Raw<Name>>>, Stop<'a>>
     requires { start_of first.now.class ≡ start.Present }
-    ensures { MatchResult result (λ r. ReadsForm source.now first.now start.Present rest.now depth r.value r.rest.now) (λ s. FailsAt (tail_of start.Present) rest.now depth 0 s) }
+    ensures { MatchResult result (λ r. ReadsForm source.now first.now start.Present rest.now depth
+        r.value r.rest.now) (λ s. FailsAt (tail_of start.Present) rest.now depth 0 s) }
 {
     match read_test_parens(alloc, source, rest, depth) {
         Ok(guard) => match braces(alloc, source, guard.rest, depth) {
@@ -303,7 +313,8 @@ fn repeat<'a>(
     depth: u32,
 ) -> Result<Read<'a, Stmt<Name, Raw<Name>>>, Stop<'a>>
     requires { start_of first.now.class ≡ start.While }
-    ensures { MatchResult result (λ r. ReadsForm source.now first.now start.While rest.now depth r.value r.rest.now) (λ s. FailsAt (tail_of start.While) rest.now depth 0 s) }
+    ensures { MatchResult result (λ r. ReadsForm source.now first.now start.While rest.now depth
+        r.value r.rest.now) (λ s. FailsAt (tail_of start.While) rest.now depth 0 s) }
 {
     match read_true(rest, depth) {
         Ok(inner) => match braces(alloc, source, inner, depth) {
@@ -327,7 +338,8 @@ fn guarded<'a>(
     depth: u32,
 ) -> Result<Read<'a, Stmt<Name, Raw<Name>>>, Stop<'a>>
     requires { start_of first.now.class ≡ start.Guarded }
-    ensures { MatchResult result (λ r. ReadsForm source.now first.now start.Guarded rest.now depth r.value r.rest.now) (λ s. FailsAt (tail_of start.Guarded) rest.now depth 0 s) }
+    ensures { MatchResult result (λ r. ReadsForm source.now first.now start.Guarded rest.now depth
+        r.value r.rest.now) (λ s. FailsAt (tail_of start.Guarded) rest.now depth 0 s) }
 {
     match read_guard(alloc, source, rest, depth) {
         Ok(guard) => match braces(alloc, source, guard.rest, depth) {
@@ -357,7 +369,8 @@ fn weak<'a>(
     depth: u32,
 ) -> Result<Read<'a, Stmt<Name, Raw<Name>>>, Stop<'a>>
     requires { start_of first.now.class ≡ start.Weak }
-    ensures { MatchResult result (λ r. ReadsForm source.now first.now start.Weak rest.now depth r.value r.rest.now) (λ s. FailsAt (tail_of start.Weak) rest.now depth 0 s) }
+    ensures { MatchResult result (λ r. ReadsForm source.now first.now start.Weak rest.now depth
+        r.value r.rest.now) (λ s. FailsAt (tail_of start.Weak) rest.now depth 0 s) }
 {
     match expect(rest, Class::Reserved(Word::Abort)) {
         Ok(keyword) => match read_guard(alloc, source, keyword.rest, depth) {
@@ -395,7 +408,8 @@ fn trap<'a>(
     depth: u32,
 ) -> Result<Read<'a, Stmt<Name, Raw<Name>>>, Stop<'a>>
     requires { start_of first.now.class ≡ start.Trap }
-    ensures { MatchResult result (λ r. ReadsForm source.now first.now start.Trap rest.now depth r.value r.rest.now) (λ s. FailsAt (tail_of start.Trap) rest.now depth 0 s) }
+    ensures { MatchResult result (λ r. ReadsForm source.now first.now start.Trap rest.now depth
+        r.value r.rest.now) (λ s. FailsAt (tail_of start.Trap) rest.now depth 0 s) }
 {
     match read_named(alloc, source, rest, depth) {
         Ok(named) => match braces(alloc, source, named.rest, depth) {
@@ -426,7 +440,8 @@ fn looped<'a>(
     depth: u32,
 ) -> Result<Read<'a, Stmt<Name, Raw<Name>>>, Stop<'a>>
     requires { start_of first.now.class ≡ start.Loop }
-    ensures { MatchResult result (λ r. ReadsForm source.now first.now start.Loop rest.now depth r.value r.rest.now) (λ s. FailsAt (tail_of start.Loop) rest.now depth 0 s) }
+    ensures { MatchResult result (λ r. ReadsForm source.now first.now start.Loop rest.now depth
+        r.value r.rest.now) (λ s. FailsAt (tail_of start.Loop) rest.now depth 0 s) }
 {
     match braces(alloc, source, rest, depth) {
         Ok(body) => match expect(body.rest, Class::Reserved(Word::Each)) {
@@ -460,7 +475,8 @@ fn other<'a>(
     tokens: &'a [Token],
     depth: u32,
 ) -> Result<Read<'a, Option<Block<Name, Raw<Name>>>>, Stop<'a>>
-    ensures { MatchResult result (λ r. ReadsOther source.now tokens.now depth r.value r.rest.now) (λ s. FailsAt (ElsePart ∷ []) tokens.now depth 0 s) }
+    ensures { MatchResult result (λ r. ReadsOther source.now tokens.now depth r.value r.rest.now)
+        (λ s. FailsAt (ElsePart ∷ []) tokens.now depth 0 s) }
 {
     let Some(keyword) = else_at(tokens) else {
         return Ok(Read {
@@ -487,7 +503,8 @@ pub fn others<'a>(
     depth: u32,
 ) -> Result<Read<'a, Vec<Block<Name, Raw<Name>>>>, Stop<'a>>
     requires { is_between between ≡ true }
-    ensures { MatchResult result (λ r. ReadsOthers source.now tokens.now between depth r.value.items r.rest.now) (λ s. FailsAt (OthersPart between ∷ []) tokens.now depth 0 s) }
+    ensures { MatchResult result (λ r. ReadsOthers source.now tokens.now between depth r.value.items
+        r.rest.now) (λ s. FailsAt (OthersPart between ∷ []) tokens.now depth 0 s) }
 {
     let mut blocks = Vec::new(alloc);
     let mut rest = tokens;

@@ -26,7 +26,9 @@ pub fn still<'a>(
     depth: u32,
 ) -> Result<Read<'a, Stmt<Name, Raw<Name>>>, Stop<'a>>
     requires { start_of first.now.class ≡ start.Still }
-    ensures { MatchResult result (λ r. (source : List ℕ) → ReadsForm source first.now start.Still rest.now depth r.value r.rest.now) (λ s. FailsAt (tail_of start.Still) rest.now depth 0 s) }
+    ensures { MatchResult result (λ r. (source : List ℕ) →
+        ReadsForm source first.now start.Still rest.now depth r.value r.rest.now)
+        (λ s. FailsAt (tail_of start.Still) rest.now depth 0 s) }
 {
     match expect(rest, Class::Mark(Mark::Semicolon)) {
         Ok(end) => Ok(Read {
@@ -46,7 +48,8 @@ pub fn emit<'a>(
     depth: u32,
 ) -> Result<Read<'a, Stmt<Name, Raw<Name>>>, Stop<'a>>
     requires role { start_of first.now.class ≡ start.Emit }
-    ensures { MatchResult result (λ r. ReadsForm source.now first.now start.Emit rest.now depth r.value r.rest.now) (λ s. FailsAt (tail_of start.Emit) rest.now depth 0 s) }
+    ensures { MatchResult result (λ r. ReadsForm source.now first.now start.Emit rest.now depth
+        r.value r.rest.now) (λ s. FailsAt (tail_of start.Emit) rest.now depth 0 s) }
 {
     match read_name(alloc, source, rest, depth) {
         Ok(named) => match read_given(alloc, source, named.rest, depth) {
@@ -72,7 +75,8 @@ pub fn local_signal<'a>(
     depth: u32,
 ) -> Result<Read<'a, Stmt<Name, Raw<Name>>>, Stop<'a>>
     requires role { start_of first.now.class ≡ start.Signal }
-    ensures { MatchResult result (λ r. ReadsForm source.now first.now start.Signal rest.now depth r.value r.rest.now) (λ s. FailsAt (tail_of start.Signal) rest.now depth 0 s) }
+    ensures { MatchResult result (λ r. ReadsForm source.now first.now start.Signal rest.now depth
+        r.value r.rest.now) (λ s. FailsAt (tail_of start.Signal) rest.now depth 0 s) }
 {
     match read_name_end(alloc, source, rest, depth) {
         Ok(named) => Ok(Read {
@@ -98,7 +102,9 @@ pub fn read_valued<'a>(
     tokens: &'a [Token],
     depth: u32,
 ) -> Result<Read<'a, Signal<Name>>, Stop<'a>>
-    ensures { MatchResult result (λ r. ReadsValued source.now kind tokens.now depth r.value r.rest.now) (λ s. FailsAt (T class_is.Name ∷ CombinePart ∷ T (class_is.Mark mark.Semicolon) ∷ []) tokens.now depth 0 s) }
+    ensures { MatchResult result (λ r. ReadsValued source.now kind tokens.now depth r.value
+        r.rest.now) (λ s. FailsAt (T class_is.Name ∷ CombinePart ∷
+        T (class_is.Mark mark.Semicolon) ∷ []) tokens.now depth 0 s) }
 {
     match read_name(alloc, source, tokens, depth) {
         Ok(named) => match read_combined(named.rest, depth) {
@@ -133,7 +139,8 @@ fn variable<'a>(
 ) -> Result<Read<'a, Stmt<Name, Raw<Name>>>, Stop<'a>>
     requires role { start_of first.now.class ≡ start.Kind kind }
     requires no_signal { IsNotFirst (class_is.Reserved word.Signal) rest.now }
-    ensures { MatchResult result (λ r. ReadsForm source.now first.now (start.Kind kind) rest.now depth r.value r.rest.now) (λ s. FailsAt (tail_of (start.Kind kind)) rest.now depth 0 s) }
+    ensures { MatchResult result (λ r. ReadsForm source.now first.now (start.Kind kind) rest.now
+        depth r.value r.rest.now) (λ s. FailsAt (tail_of (start.Kind kind)) rest.now depth 0 s) }
 {
     match read_name(alloc, source, rest, depth) {
         Ok(named) => match expect(named.rest, Class::Mark(Mark::Assign)) {
@@ -171,7 +178,8 @@ pub fn kinded<'a>(
     depth: u32,
 ) -> Result<Read<'a, Stmt<Name, Raw<Name>>>, Stop<'a>>
     requires role { start_of first.now.class ≡ start.Kind kind }
-    ensures { MatchResult result (λ r. ReadsForm source.now first.now (start.Kind kind) rest.now depth r.value r.rest.now) (λ s. FailsAt (tail_of (start.Kind kind)) rest.now depth 0 s) }
+    ensures { MatchResult result (λ r. ReadsForm source.now first.now (start.Kind kind) rest.now
+        depth r.value r.rest.now) (λ s. FailsAt (tail_of (start.Kind kind)) rest.now depth 0 s) }
 {
     match after(rest, Class::Reserved(Word::Signal)) {
         Some(keyword) => match read_valued(alloc, source, kind, keyword.rest, depth) {
@@ -194,7 +202,8 @@ pub fn assign<'a>(
     depth: u32,
 ) -> Result<Read<'a, Stmt<Name, Raw<Name>>>, Stop<'a>>
     requires role { start_of first.now.class ≡ start.Name }
-    ensures { MatchResult result (λ r. ReadsForm source.now first.now start.Name rest.now depth r.value r.rest.now) (λ s. FailsAt (tail_of start.Name) rest.now depth 0 s) }
+    ensures { MatchResult result (λ r. ReadsForm source.now first.now start.Name rest.now depth
+        r.value r.rest.now) (λ s. FailsAt (tail_of start.Name) rest.now depth 0 s) }
 {
     let name = match name_of(alloc, source, first) {
         Ok(name) => name,
@@ -227,7 +236,8 @@ pub fn exit<'a>(
     depth: u32,
 ) -> Result<Read<'a, Stmt<Name, Raw<Name>>>, Stop<'a>>
     requires role { start_of first.now.class ≡ start.Exit }
-    ensures { MatchResult result (λ r. ReadsForm source.now first.now start.Exit rest.now depth r.value r.rest.now) (λ s. FailsAt (tail_of start.Exit) rest.now depth 0 s) }
+    ensures { MatchResult result (λ r. ReadsForm source.now first.now start.Exit rest.now depth
+        r.value r.rest.now) (λ s. FailsAt (tail_of start.Exit) rest.now depth 0 s) }
 {
     match read_named(alloc, source, rest, depth) {
         Ok(named) => match expect(named.rest, Class::Mark(Mark::Semicolon)) {
@@ -256,7 +266,8 @@ pub fn send<'a>(
     depth: u32,
 ) -> Result<Read<'a, Stmt<Name, Raw<Name>>>, Stop<'a>>
     requires role { start_of first.now.class ≡ start.Send }
-    ensures { MatchResult result (λ r. ReadsForm source.now first.now start.Send rest.now depth r.value r.rest.now) (λ s. FailsAt (tail_of start.Send) rest.now depth 0 s) }
+    ensures { MatchResult result (λ r. ReadsForm source.now first.now start.Send rest.now depth
+        r.value r.rest.now) (λ s. FailsAt (tail_of start.Send) rest.now depth 0 s) }
 {
     match read_name(alloc, source, rest, depth) {
         Ok(named) => match read_parens(alloc, source, named.rest, depth) {
@@ -289,7 +300,8 @@ pub fn receive<'a>(
     depth: u32,
 ) -> Result<Read<'a, Stmt<Name, Raw<Name>>>, Stop<'a>>
     requires role { start_of first.now.class ≡ start.Receive }
-    ensures { MatchResult result (λ r. ReadsForm source.now first.now start.Receive rest.now depth r.value r.rest.now) (λ s. FailsAt (tail_of start.Receive) rest.now depth 0 s) }
+    ensures { MatchResult result (λ r. ReadsForm source.now first.now start.Receive rest.now depth
+        r.value r.rest.now) (λ s. FailsAt (tail_of start.Receive) rest.now depth 0 s) }
 {
     match read_name_end(alloc, source, rest, depth) {
         Ok(named) => Ok(Read {
@@ -315,7 +327,8 @@ pub fn await_test<'a>(
     depth: u32,
 ) -> Result<Read<'a, Stmt<Name, Raw<Name>>>, Stop<'a>>
     requires role { start_of first.now.class ≡ start.Await }
-    ensures { MatchResult result (λ r. ReadsForm source.now first.now start.Await rest.now depth r.value r.rest.now) (λ s. FailsAt (tail_of start.Await) rest.now depth 0 s) }
+    ensures { MatchResult result (λ r. ReadsForm source.now first.now start.Await rest.now depth
+        r.value r.rest.now) (λ s. FailsAt (tail_of start.Await) rest.now depth 0 s) }
 {
     match read_guard(alloc, source, rest, depth) {
         Ok(guard) => match expect(guard.rest, Class::Mark(Mark::Semicolon)) {

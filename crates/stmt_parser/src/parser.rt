@@ -35,7 +35,8 @@ pub fn parse(
     source: &[u8],
 ) -> Result<Tree<Name, Raw<Name>>, ParseError>
     requires { length source.now ≤ 1048576 }
-    ensures { MatchResult result (λ t. IsTreeOf source.now tokens.now t) (λ e. IsNoProgram source.now tokens.now e) }
+    ensures { MatchResult result (λ t. IsTreeOf source.now tokens.now t)
+        (λ e. IsNoProgram source.now tokens.now e) }
 {
     match whole(alloc, source, tokens) {
         Ok(tree) => Ok(tree),

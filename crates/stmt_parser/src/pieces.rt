@@ -17,7 +17,8 @@ use std::alloc::Global;
 
 /// The token of this class, and those behind it.
 pub fn expect<'a>(tokens: &'a [Token], wanted: Class) -> Result<Read<'a, Token>, Stop<'a>>
-    ensures { MatchResult result (λ f. IsFirst wanted tokens.now f.value f.rest.now) (λ s. Lacks wanted tokens.now s) }
+    ensures { MatchResult result (λ f. IsFirst wanted tokens.now f.value f.rest.now)
+        (λ s. Lacks wanted tokens.now s) }
 {
     match after(tokens, wanted) {
         Some(first) => Ok(first),
@@ -32,7 +33,8 @@ pub fn read_name<'a>(
     tokens: &'a [Token],
     depth: u32,
 ) -> Result<Read<'a, Name>, Stop<'a>>
-    ensures { MatchResult result (λ r. ReadsName source.now tokens.now r.value r.rest.now) (λ s. FailsAt (T class_is.Name ∷ []) tokens.now depth 0 s) }
+    ensures { MatchResult result (λ r. ReadsName source.now tokens.now r.value r.rest.now)
+        (λ s. FailsAt (T class_is.Name ∷ []) tokens.now depth 0 s) }
 {
     match expect(tokens, Class::Name) {
         Ok(token) => match name_of(alloc, source, &token.value) {
@@ -53,7 +55,9 @@ pub fn read_named<'a>(
     tokens: &'a [Token],
     depth: u32,
 ) -> Result<Read<'a, Name>, Stop<'a>>
-    ensures { MatchResult result (λ r. ReadsNamed source.now tokens.now depth r.value r.rest.now) (λ s. FailsAt (T (class_is.Mark mark.OpenParen) ∷ T class_is.Name ∷ T (class_is.Mark mark.CloseParen) ∷ []) tokens.now depth 0 s) }
+    ensures { MatchResult result (λ r. ReadsNamed source.now tokens.now depth r.value r.rest.now)
+        (λ s. FailsAt (T (class_is.Mark mark.OpenParen) ∷ T class_is.Name ∷
+        T (class_is.Mark mark.CloseParen) ∷ []) tokens.now depth 0 s) }
 {
     let open = match expect(tokens, Class::Mark(Mark::OpenParen)) {
         Ok(open) => open,
@@ -81,7 +85,9 @@ pub fn read_name_end<'a>(
     tokens: &'a [Token],
     depth: u32,
 ) -> Result<Read<'a, Name>, Stop<'a>>
-    ensures { MatchResult result (λ r. ReadsNameEnd source.now tokens.now depth r.value r.rest.now) (λ s. FailsAt (T class_is.Name ∷ T (class_is.Mark mark.Semicolon) ∷ []) tokens.now depth 0 s) }
+    ensures { MatchResult result (λ r. ReadsNameEnd source.now tokens.now depth r.value r.rest.now)
+        (λ s. FailsAt (T class_is.Name ∷ T (class_is.Mark mark.Semicolon) ∷
+        []) tokens.now depth 0 s) }
 {
     match read_name(alloc, source, tokens, depth) {
         Ok(read) => match expect(read.rest, Class::Mark(Mark::Semicolon)) {
@@ -97,7 +103,8 @@ pub fn read_name_end<'a>(
 
 /// The sign of a combination.
 fn combine_sign<'a>(tokens: &'a [Token], depth: u32) -> Result<Read<'a, Combination>, Stop<'a>>
-    ensures { MatchResult result (λ r. ReadsCombineSign tokens.now depth r.value.operator r.value.at r.rest.now) (λ s. FailsAt (CombineSign ∷ []) tokens.now depth 0 s) }
+    ensures { MatchResult result (λ r. ReadsCombineSign tokens.now depth r.value.operator r.value.at
+        r.rest.now) (λ s. FailsAt (CombineSign ∷ []) tokens.now depth 0 s) }
 {
     let Some((sign, rest)) = tokens.split_first() else {
         return Err(Stop::Syntax(tokens));
@@ -116,7 +123,8 @@ fn combine_sign<'a>(tokens: &'a [Token], depth: u32) -> Result<Read<'a, Combinat
 
 /// A `combine` that the tokens begin with.
 fn combine_at(tokens: &[Token]) -> Option<Read<Token>>
-    ensures { MatchOption result (Skips CombinePart tokens.now) (λ f. IsFirst (class_is.Reserved word.Combine) tokens.now f.value f.rest.now) }
+    ensures { MatchOption result (Skips CombinePart tokens.now)
+        (λ f. IsFirst (class_is.Reserved word.Combine) tokens.now f.value f.rest.now) }
 {
     match after(tokens, Class::Reserved(Word::Combine)) {
         Some(first) => Some(first),
@@ -129,7 +137,8 @@ pub fn read_combined<'a>(
     tokens: &'a [Token],
     depth: u32,
 ) -> Result<Read<'a, Option<Combination>>, Stop<'a>>
-    ensures { MatchResult result (λ r. ReadsCombined tokens.now depth r.value r.rest.now) (λ s. FailsAt (CombinePart ∷ []) tokens.now depth 0 s) }
+    ensures { MatchResult result (λ r. ReadsCombined tokens.now depth r.value r.rest.now)
+        (λ s. FailsAt (CombinePart ∷ []) tokens.now depth 0 s) }
 {
     let Some(keyword) = combine_at(tokens) else {
         return Ok(Read {

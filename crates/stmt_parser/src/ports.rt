@@ -39,7 +39,8 @@ fn declared<'a>(
     tokens: &'a [Token],
     depth: u32,
 ) -> Result<Read<'a, Signal<Name>>, Stop<'a>>
-    ensures { MatchResult result (λ r. ReadsDeclared source.now tokens.now depth r.value r.rest.now) (λ s. FailsAt (SignalPart ∷ []) tokens.now depth 0 s) }
+    ensures { MatchResult result (λ r. ReadsDeclared source.now tokens.now depth r.value r.rest.now)
+        (λ s. FailsAt (SignalPart ∷ []) tokens.now depth 0 s) }
 {
     if let Some(keyword) = after(tokens, Class::Reserved(Word::Signal)) {
         return match read_name_end(alloc, source, keyword.rest, depth) {
@@ -78,7 +79,8 @@ fn signal_port<'a>(
 ) -> Result<Read<'a, Port<Name>>, Stop<'a>>
     requires is { tokens.now ≡ first.now ∷ rest.now }
     requires role { direction_of first.now.class ≡ Some direction }
-    ensures { MatchResult result (λ r. ReadsPort source.now tokens.now depth r.value r.rest.now) (λ s. FailsAt (PortList ∷ []) tokens.now depth 0 s) }
+    ensures { MatchResult result (λ r. ReadsPort source.now tokens.now depth r.value r.rest.now)
+        (λ s. FailsAt (PortList ∷ []) tokens.now depth 0 s) }
 {
     match declared(alloc, source, rest, depth) {
         Ok(read) => Ok(Read {
@@ -104,7 +106,8 @@ fn channel_port<'a>(
 ) -> Result<Read<'a, Port<Name>>, Stop<'a>>
     requires is { tokens.now ≡ first.now ∷ rest.now }
     requires role { kind_of first.now.class ≡ Some kind }
-    ensures { MatchResult result (λ r. ReadsPort source.now tokens.now depth r.value r.rest.now) (λ s. FailsAt (PortList ∷ []) tokens.now depth 0 s) }
+    ensures { MatchResult result (λ r. ReadsPort source.now tokens.now depth r.value r.rest.now)
+        (λ s. FailsAt (PortList ∷ []) tokens.now depth 0 s) }
 {
     match expect(rest, Class::Reserved(Word::Channel)) {
         Ok(keyword) => match read_name_end(alloc, source, keyword.rest, depth) {
@@ -130,7 +133,8 @@ fn read_port<'a>(
     depth: u32,
 ) -> Result<Read<'a, Port<Name>>, Stop<'a>>
     requires { begins_port tokens.now ≡ true }
-    ensures { MatchResult result (λ r. ReadsPort source.now tokens.now depth r.value r.rest.now) (λ s. FailsAt (PortList ∷ []) tokens.now depth 0 s) }
+    ensures { MatchResult result (λ r. ReadsPort source.now tokens.now depth r.value r.rest.now)
+        (λ s. FailsAt (PortList ∷ []) tokens.now depth 0 s) }
 {
     let Some((first, rest)) = tokens.split_first() else {
         unreachable!()
@@ -151,7 +155,8 @@ pub fn read_ports<'a>(
     tokens: &'a [Token],
     depth: u32,
 ) -> Result<Read<'a, Vec<Port<Name>>>, Stop<'a>>
-    ensures { MatchResult result (λ r. ReadsPorts source.now tokens.now depth r.value.items r.rest.now) (λ s. FailsAt (PortList ∷ []) tokens.now depth 0 s) }
+    ensures { MatchResult result (λ r. ReadsPorts source.now tokens.now depth r.value.items
+        r.rest.now) (λ s. FailsAt (PortList ∷ []) tokens.now depth 0 s) }
 {
     let mut ports = Vec::new(alloc);
     let mut rest = tokens;

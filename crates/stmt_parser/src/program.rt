@@ -21,7 +21,11 @@ fn interface<'a>(
     source: &[u8],
     tokens: &'a [Token],
 ) -> Result<Read<'a, Vec<Port<Name>>>, Stop<'a>>
-    ensures { MatchResult result (λ r. ReadsInterface source.now tokens.now r.value.items r.rest.now) (λ s. FailsAt (T (class_is.Reserved word.System) ∷ T (class_is.Mark mark.OpenBrace) ∷ T (class_is.Reserved word.Interface) ∷ T (class_is.Mark mark.OpenBrace) ∷ PortList ∷ T (class_is.Mark mark.CloseBrace) ∷ []) tokens.now 0 0 s) }
+    ensures { MatchResult result (λ r. ReadsInterface source.now tokens.now r.value.items
+        r.rest.now) (λ s. FailsAt (T (class_is.Reserved word.System) ∷
+        T (class_is.Mark mark.OpenBrace) ∷ T (class_is.Reserved word.Interface) ∷
+        T (class_is.Mark mark.OpenBrace) ∷ PortList ∷ T (class_is.Mark mark.CloseBrace) ∷
+        []) tokens.now 0 0 s) }
 {
     match expect(tokens, Class::Reserved(Word::System)) {
         Ok(system) => match expect(system.rest, Class::Mark(Mark::OpenBrace)) {
@@ -59,7 +63,9 @@ fn domains<'a>(
     source: &[u8],
     tokens: &'a [Token],
 ) -> Result<Read<'a, Vec<Block<Name, Raw<Name>>>>, Stop<'a>>
-    ensures { MatchResult result (λ r. ReadsDomains source.now tokens.now r.value.items r.rest.now) (λ s. FailsAt (InBraces ∷ OthersPart mark.Beside ∷ T (class_is.Mark mark.CloseBrace) ∷ []) tokens.now 1 0 s) }
+    ensures { MatchResult result (λ r. ReadsDomains source.now tokens.now r.value.items r.rest.now)
+        (λ s. FailsAt (InBraces ∷ OthersPart mark.Beside ∷ T (class_is.Mark mark.CloseBrace) ∷
+        []) tokens.now 1 0 s) }
 {
     match braces(alloc, source, tokens, 1) {
         Ok(first) => match others(alloc, source, first.rest, Mark::Beside, 1) {
@@ -88,7 +94,8 @@ pub fn read_program<'a>(
     source: &[u8],
     tokens: &'a [Token],
 ) -> Result<Read<'a, Tree<Name, Raw<Name>>>, Stop<'a>>
-    ensures { MatchResult result (λ r. ReadsProgram source.now tokens.now r.value r.rest.now) (λ s. FailsAt program tokens.now 0 0 s) }
+    ensures { MatchResult result (λ r. ReadsProgram source.now tokens.now r.value r.rest.now)
+        (λ s. FailsAt program tokens.now 0 0 s) }
 {
     match interface(alloc, source, tokens) {
         Ok(ports) => match domains(alloc, source, ports.rest) {

@@ -38,7 +38,8 @@ pub fn read_value<'a>(
     tokens: &'a [Token],
     depth: u32,
 ) -> Result<Read<'a, Raw<Name>>, Stop<'a>>
-    ensures { MatchResult result (λ r. ReadsValue source.now tokens.now depth r.value r.rest.now) (λ s. FailsAt (Operand ∷ More ∷ []) tokens.now depth 0 s) }
+    ensures { MatchResult result (λ r. ReadsValue source.now tokens.now depth r.value r.rest.now)
+        (λ s. FailsAt (Operand ∷ More ∷ []) tokens.now depth 0 s) }
 {
     match expression(alloc, source, tokens, 1, depth, 0) {
         Ok(read) => Ok(Read {
@@ -56,7 +57,8 @@ pub fn read_test<'a>(
     tokens: &'a [Token],
     depth: u32,
 ) -> Result<Read<'a, Test<Name>>, Stop<'a>>
-    ensures { MatchResult result (λ r. ReadsTest source.now tokens.now depth r.value r.rest.now) (λ s. FailsAt (TestOperand ∷ MoreTest ∷ []) tokens.now depth 0 s) }
+    ensures { MatchResult result (λ r. ReadsTest source.now tokens.now depth r.value r.rest.now)
+        (λ s. FailsAt (TestOperand ∷ MoreTest ∷ []) tokens.now depth 0 s) }
 {
     match test_from(alloc, source, tokens, 1, depth, 0) {
         Ok(read) => Ok(Read {
@@ -75,7 +77,9 @@ fn closed_value<'a>(
     depth: u32,
 ) -> Result<Read<'a, Raw<Name>>, Stop<'a>>
     requires { depth < 64 }
-    ensures { MatchResult result (λ r. ReadsClosed source.now tokens.now depth r.value r.rest.now) (λ s. FailsAt (Operand ∷ More ∷ T (class_is.Mark mark.CloseParen) ∷ []) tokens.now (depth + 1) 0 s) }
+    ensures { MatchResult result (λ r. ReadsClosed source.now tokens.now depth r.value r.rest.now)
+        (λ s. FailsAt (Operand ∷ More ∷ T (class_is.Mark mark.CloseParen) ∷
+        []) tokens.now (depth + 1) 0 s) }
 {
     match read_value(alloc, source, tokens, depth + 1) {
         Ok(read) => match expect(read.rest, Class::Mark(Mark::CloseParen)) {
@@ -97,7 +101,9 @@ fn closed_test<'a>(
     depth: u32,
 ) -> Result<Read<'a, Test<Name>>, Stop<'a>>
     requires { depth < 64 }
-    ensures { MatchResult result (λ r. ReadsClosedTest source.now tokens.now depth r.value r.rest.now) (λ s. FailsAt (TestOperand ∷ MoreTest ∷ T (class_is.Mark mark.CloseParen) ∷ []) tokens.now (depth + 1) 0 s) }
+    ensures { MatchResult result (λ r. ReadsClosedTest source.now tokens.now depth r.value
+        r.rest.now) (λ s. FailsAt (TestOperand ∷ MoreTest ∷ T (class_is.Mark mark.CloseParen) ∷
+        []) tokens.now (depth + 1) 0 s) }
 {
     match read_test(alloc, source, tokens, depth + 1) {
         Ok(read) => match expect(read.rest, Class::Mark(Mark::CloseParen)) {
@@ -118,7 +124,9 @@ pub fn read_parens<'a>(
     tokens: &'a [Token],
     depth: u32,
 ) -> Result<Read<'a, Raw<Name>>, Stop<'a>>
-    ensures { MatchResult result (λ r. ReadsParens source.now tokens.now depth r.value r.rest.now) (λ s. FailsAt (T (class_is.Mark mark.OpenParen) ∷ Operand ∷ More ∷ T (class_is.Mark mark.CloseParen) ∷ []) tokens.now depth 0 s) }
+    ensures { MatchResult result (λ r. ReadsParens source.now tokens.now depth r.value r.rest.now)
+        (λ s. FailsAt (T (class_is.Mark mark.OpenParen) ∷ Operand ∷ More ∷
+        T (class_is.Mark mark.CloseParen) ∷ []) tokens.now depth 0 s) }
 {
     let open = match expect(tokens, Class::Mark(Mark::OpenParen)) {
         Ok(open) => open,
@@ -140,7 +148,9 @@ pub fn read_test_parens<'a>(
     tokens: &'a [Token],
     depth: u32,
 ) -> Result<Read<'a, Test<Name>>, Stop<'a>>
-    ensures { MatchResult result (λ r. ReadsTestParens source.now tokens.now depth r.value r.rest.now) (λ s. FailsAt (T (class_is.Mark mark.OpenParen) ∷ TestOperand ∷ MoreTest ∷ T (class_is.Mark mark.CloseParen) ∷ []) tokens.now depth 0 s) }
+    ensures { MatchResult result (λ r. ReadsTestParens source.now tokens.now depth r.value
+        r.rest.now) (λ s. FailsAt (T (class_is.Mark mark.OpenParen) ∷ TestOperand ∷ MoreTest ∷
+        T (class_is.Mark mark.CloseParen) ∷ []) tokens.now depth 0 s) }
 {
     let open = match expect(tokens, Class::Mark(Mark::OpenParen)) {
         Ok(open) => open,
@@ -157,7 +167,8 @@ pub fn read_test_parens<'a>(
 
 /// An `immediate` that the tokens begin with.
 fn immediate_at(tokens: &[Token]) -> Option<Read<Token>>
-    ensures { MatchOption result (Skips ImmediatePart tokens.now) (λ f. IsFirst (class_is.Reserved word.Immediate) tokens.now f.value f.rest.now) }
+    ensures { MatchOption result (Skips ImmediatePart tokens.now)
+        (λ f. IsFirst (class_is.Reserved word.Immediate) tokens.now f.value f.rest.now) }
 {
     match after(tokens, Class::Reserved(Word::Immediate)) {
         Some(first) => Some(first),
@@ -172,7 +183,9 @@ pub fn read_guard<'a>(
     tokens: &'a [Token],
     depth: u32,
 ) -> Result<Read<'a, Guard>, Stop<'a>>
-    ensures { MatchResult result (λ r. ReadsGuard source.now tokens.now depth r.value.immediate r.value.test r.rest.now) (λ s. FailsAt (T (class_is.Mark mark.OpenParen) ∷ ImmediatePart ∷ TestOperand ∷ MoreTest ∷ T (class_is.Mark mark.CloseParen) ∷ []) tokens.now depth 0 s) }
+    ensures { MatchResult result (λ r. ReadsGuard source.now tokens.now depth r.value.immediate
+        r.value.test r.rest.now) (λ s. FailsAt (T (class_is.Mark mark.OpenParen) ∷ ImmediatePart ∷
+        TestOperand ∷ MoreTest ∷ T (class_is.Mark mark.CloseParen) ∷ []) tokens.now depth 0 s) }
 {
     let open = match expect(tokens, Class::Mark(Mark::OpenParen)) {
         Ok(open) => open,
@@ -207,7 +220,9 @@ pub fn read_guard<'a>(
 
 /// `(` `true` `)`
 pub fn read_true<'a>(tokens: &'a [Token], depth: u32) -> Result<&'a [Token], Stop<'a>>
-    ensures { MatchResult result (λ r. ReadsTrue tokens.now depth r.now) (λ s. FailsAt (T (class_is.Mark mark.OpenParen) ∷ T (class_is.Reserved word.True) ∷ T (class_is.Mark mark.CloseParen) ∷ []) tokens.now depth 0 s) }
+    ensures { MatchResult result (λ r. ReadsTrue tokens.now depth r.now)
+        (λ s. FailsAt (T (class_is.Mark mark.OpenParen) ∷ T (class_is.Reserved word.True) ∷
+        T (class_is.Mark mark.CloseParen) ∷ []) tokens.now depth 0 s) }
 {
     let open = match expect(tokens, Class::Mark(Mark::OpenParen)) {
         Ok(open) => open,
@@ -227,7 +242,8 @@ pub fn read_true<'a>(tokens: &'a [Token], depth: u32) -> Result<&'a [Token], Sto
 
 /// A `(` before a value.
 fn value_at(tokens: &[Token]) -> Option<Read<Token>>
-    ensures { MatchOption result (Skips ValuePart tokens.now) (λ f. IsFirst (class_is.Mark mark.OpenParen) tokens.now f.value f.rest.now) }
+    ensures { MatchOption result (Skips ValuePart tokens.now)
+        (λ f. IsFirst (class_is.Mark mark.OpenParen) tokens.now f.value f.rest.now) }
 {
     match after(tokens, Class::Mark(Mark::OpenParen)) {
         Some(first) => Some(first),
@@ -242,7 +258,8 @@ pub fn read_given<'a>(
     tokens: &'a [Token],
     depth: u32,
 ) -> Result<Read<'a, Option<Raw<Name>>>, Stop<'a>>
-    ensures { MatchResult result (λ r. ReadsGiven source.now tokens.now depth r.value r.rest.now) (λ s. FailsAt (ValuePart ∷ []) tokens.now depth 0 s) }
+    ensures { MatchResult result (λ r. ReadsGiven source.now tokens.now depth r.value r.rest.now)
+        (λ s. FailsAt (ValuePart ∷ []) tokens.now depth 0 s) }
 {
     let Some(open) = value_at(tokens) else {
         return Ok(Read {
@@ -264,7 +281,8 @@ pub fn read_given<'a>(
 
 /// The sign of an assignment.
 pub fn read_assign<'a>(tokens: &'a [Token], depth: u32) -> Result<Read<'a, Assignment>, Stop<'a>>
-    ensures { MatchResult result (λ r. ReadsAssignSign tokens.now depth r.value.op r.value.at r.rest.now) (λ s. FailsAt (AssignSign ∷ []) tokens.now depth 0 s) }
+    ensures { MatchResult result (λ r. ReadsAssignSign tokens.now depth r.value.op r.value.at
+        r.rest.now) (λ s. FailsAt (AssignSign ∷ []) tokens.now depth 0 s) }
 {
     let Some((sign, rest)) = tokens.split_first() else {
         return Err(Stop::Syntax(tokens));

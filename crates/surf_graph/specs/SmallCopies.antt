@@ -6,7 +6,15 @@ use Rattle.surf_graph.specs.definitions.Copies.{Context, Emits, Sets}
 
 -- It ticks where wire 1 is on, is held where wire 2 is, and what it leaves is kept where wire 3 is.
 abbrev pub given : Context
-given = record { go = 1; hold = 2; keep = 3; wires = record { variables = λ x. 4; present = λ s. 5; value = λ s. 6; last = λ c. 7 }; register = 0; next = 8 }
+given =
+    record {
+      go = 1;
+      hold = 2;
+      keep = 3;
+      wires = record { variables = λ x. 4; present = λ s. 5; value = λ s. 6; last = λ c. 7 };
+      register = 0;
+      next = 8;
+    }
 
 abbrev pub is : ℕ → Formula → Equation
 is wire formula = record { wire = wire; formula = formula }

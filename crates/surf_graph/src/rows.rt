@@ -22,7 +22,8 @@ pub fn starting_pause()
 /// An emission has the code 0, and its condition is that it starts.
 pub fn starting_emission()
     ensures equations { (tables : Tables)
-        → (start tables (emission 5) given).equations ≡ is 8 (Status 1 0) ∷ is 9 (Const (pos 0)) ∷ [] }
+        → (start tables (emission 5) given).equations ≡
+        is 8 (Status 1 0) ∷ is 9 (Const (pos 0)) ∷ [] }
     ensures emits { (tables : Tables) → (start tables (emission 5) given).emits ≡ emits 5 1 9 ∷ [] }
     ensures sets { (tables : Tables) → (start tables (emission 5) given).sets 0 ≡ [] }
 {}
@@ -42,5 +43,6 @@ pub fn starting_sequence()
 /// Both branches of a parallel start, and keep their registers where the whole pauses.
 pub fn starting_parallel()
     ensures { (tables : Tables)
-        → (start tables (Par Pause (emission 5)) given).equations ≡ pause_beside_emission_equations }
+        → (start tables (Par Pause (emission 5)) given).equations ≡
+        pause_beside_emission_equations }
 {}

@@ -30,7 +30,8 @@ formula_value (Not a) frame wires = of_bool (not (is_on wires a))
 -- each wire has the value of its formula
 abbrev pub Satisfies : List Equation → List ℤ → List ℤ → Type 0
 Satisfies [] frame wires = Unit {0}
-Satisfies (e ∷ es) frame wires = (number_at wires e.wire ≡ formula_value e.formula frame wires) × Satisfies es frame wires
+Satisfies (e ∷ es) frame wires =
+    (number_at wires e.wire ≡ formula_value e.formula frame wires) × Satisfies es frame wires
 
 abbrev pub ReadsBelow : ℕ → Formula → Type 0
 ReadsBelow limit (Const n) = Unit {0}

@@ -8,11 +8,13 @@ use Rattle.tick_log.specs.definitions.Runs.{Entry}
 abbrev pub entries_of : ℕ → List ℕ → List (Option ℤ) → List Entry
 entries_of signals [] statuses = []
 entries_of signals (s ∷ stamps) statuses =
-    record { stamp = s; statuses = take signals statuses } ∷ entries_of signals stamps (drop signals statuses)
+    record { stamp = s; statuses = take signals statuses } ∷
+    entries_of signals stamps (drop signals statuses)
 
 -- So many statuses as the ticks have, and memory for the ticks that there is room for. A domain that
 -- has ended has had a tick.
-pub record Keeps (stamps : Vec ℕ Global) (statuses : Vec (Option ℤ) Global) (signals room : ℕ) (ended : Bool) : Type 0 where
+pub record Keeps (stamps : Vec ℕ Global) (statuses : Vec (Option ℤ) Global) (signals room : ℕ)
+    (ended : Bool) : Type 0 where
   pub all : vec_len statuses ≡ signals * vec_len stamps
   pub ticks : vec_len stamps + room ≤ vec_capacity stamps
   pub places : signals * (vec_len stamps + room) ≤ vec_capacity statuses

@@ -24,7 +24,14 @@ pub record Adds (p q : Standing) (x : List ℕ) : Type 0 where
 
 module _ {K : Type 0} where
   abbrev pub standing : (K → Option (List ℕ)) → (K → ℕ) → Printer → K → Standing
-  standing taken faults printer out = record { good = printer.good; told = taken out; faults = faults out; waits = waiting printer.gathered }
+  standing taken faults printer out =
+      record {
+        good = printer.good;
+        told = taken out;
+        faults = faults out;
+        waits = waiting printer.gathered;
+      }
 
   abbrev pub Prints : (K → Option (List ℕ)) → (K → ℕ) → Printer → Printer → K → K → List ℕ → Type 0
-  Prints taken faults printer printer' out out' x = Adds (standing taken faults printer out) (standing taken faults printer' out') x
+  Prints taken faults printer printer' out out' x =
+      Adds (standing taken faults printer out) (standing taken faults printer' out') x

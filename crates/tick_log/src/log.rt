@@ -26,7 +26,12 @@ impl Model for Log {
 
     ghost Value = { LogState };
 
-    ghost view = { λ l. record { entries = entries_of l.signals l.stamps.items l.statuses.items; mark = cond l.ended Ended Going; signals = l.signals; room = l.room } };
+    ghost view = { λ l. record {
+      entries = entries_of l.signals l.stamps.items l.statuses.items;
+      mark = cond l.ended Ended Going;
+      signals = l.signals;
+      room = l.room;
+    } };
 
     ghost invariant = { λ l. Keeps l.stamps l.statuses l.signals l.room l.ended };
 }
@@ -35,7 +40,8 @@ impl Log {
     /// An empty log over so many signals, with room for so many ticks. The memory of all of them is
     /// taken here: `NoMemory` says that it was refused.
     pub fn open(alloc: Global, signals: u32, ticks: u32) -> Result<Log, NoMemory>
-        ensures log { IfOk result (λ log. log ≡ record { entries = []; mark = Going; signals = signals; room = ticks }) }
+        ensures log { IfOk result (λ log. log ≡
+            record { entries = []; mark = Going; signals = signals; room = ticks }) }
         ensures empty { ticks ≡ 0 → IsOk result }
     {
         let stamps = Vec::with_capacity(alloc, ticks as usize)?;
@@ -52,7 +58,8 @@ impl Log {
     /// Takes memory for at least so many ticks more: `NoMemory` says that it was refused.
     pub fn reserve(&mut self, ticks: u32) -> Result<(), NoMemory>
         requires { length self.old.entries + ticks < 2 ^ 32 }
-        ensures reserved { IfOk result (λ _. self.new ≡ record self.old { room = max self.old.room ticks }) }
+        ensures reserved { IfOk result (λ _. self.new ≡
+            record self.old { room = max self.old.room ticks }) }
         ensures unchanged { IsErr result → self.new ≡ self.old }
     {
         if ticks <= self.room {
@@ -72,7 +79,8 @@ impl Log {
         requires present { length present.now ≡ self.old.signals }
         requires values { length values.now ≡ self.old.signals }
         ensures { self.new ≡ record {
-          entries = self.old.entries ++ record { stamp = stamp; statuses = statuses_of present.now values.now } ∷ [];
+          entries = self.old.entries ++
+              record { stamp = stamp; statuses = statuses_of present.now values.now } ∷ [];
           mark = cond ended Ended Going;
           signals = self.old.signals;
           room = self.old.room - 1;
@@ -118,7 +126,8 @@ impl Log {
     pub fn status(&self, tick: u32, signal: u32) -> Option<i64>
         requires tick { (1 ≤ tick) × (tick ≤ length self.now.entries) }
         requires signal { signal < self.now.signals }
-        ensures { result ≡ slice_index_or (entry_at self.now.entries (tick - 1)).statuses signal None }
+        ensures { result ≡
+            slice_index_or (entry_at self.now.entries (tick - 1)).statuses signal None }
     {
         let before = self.signals as usize * (tick as usize - 1);
         self.statuses[before + signal as usize]

@@ -21,7 +21,8 @@ fn signal(
     kind: Option<Kind>,
     combine: Combine,
 ) -> Result<SignalInfo, NoMemory>
-    ensures { IfOk result (λ s. s ≡ record { name = name.now; domain = domain; sort = sort; kind = kind; combine = combine }) }
+    ensures { IfOk result (λ s. s ≡
+        record { name = name.now; domain = domain; sort = sort; kind = kind; combine = combine }) }
 {
     let name = Text::new(alloc, name)?;
     Ok(SignalInfo {
@@ -47,8 +48,13 @@ fn system_of(
     signals: Vec<SignalInfo>,
     channels: Vec<ChannelInfo>,
 ) -> System
-    requires well_formed { is_well_formed (record { signals = signals.items; channels = channels.items; variables = [] }) domains.items ≡ true }
-    ensures tables { tables_of result ≡ record { signals = signals.items; channels = channels.items; variables = [] } }
+    requires well_formed { is_well_formed (record {
+      signals = signals.items;
+      channels = channels.items;
+      variables = [];
+    }) domains.items ≡ true }
+    ensures tables { tables_of result ≡
+        record { signals = signals.items; channels = channels.items; variables = [] } }
     ensures domains { domains_of result ≡ domains.items }
 {
     let tables = Tables {
@@ -125,7 +131,18 @@ fn a_history_keeps_its_rows_in_order(rt: HostRuntime) -> Result<(), Fail> {
 
 // One domain, over the signal `A`.
 fn one_signal(alloc: Global) -> Result<System, NoMemory>
-    ensures tables { IfOk result (λ s. tables_of s ≡ record { signals = record { name = codes "A"; domain = 0; sort = Sort.Output; kind = None; combine = Combine.Max } ∷ []; channels = []; variables = [] }) }
+    ensures tables { IfOk result (λ s. tables_of s ≡
+        record {
+          signals = record {
+            name = codes "A";
+            domain = 0;
+            sort = Sort.Output;
+            kind = None;
+            combine = Combine.Max;
+          } ∷ [];
+          channels = [];
+          variables = [];
+        }) }
     ensures domains { IfOk result (λ s. length (domains_of s) ≡ 1) }
 {
     let a = signal(alloc, b"A", 0, Sort::Output, None, Combine::Max)?;
@@ -136,7 +153,25 @@ fn one_signal(alloc: Global) -> Result<System, NoMemory>
 
 // One domain, over the signals `A` and `B`.
 fn two_signals(alloc: Global) -> Result<System, NoMemory>
-    ensures tables { IfOk result (λ s. tables_of s ≡ record { signals = record { name = codes "A"; domain = 0; sort = Sort.Input; kind = None; combine = Combine.Max } ∷ record { name = codes "B"; domain = 0; sort = Sort.Output; kind = None; combine = Combine.Max } ∷ []; channels = []; variables = [] }) }
+    ensures tables { IfOk result (λ s. tables_of s ≡
+        record {
+          signals = record {
+            name = codes "A";
+            domain = 0;
+            sort = Sort.Input;
+            kind = None;
+            combine = Combine.Max;
+          } ∷
+              record {
+                name = codes "B";
+                domain = 0;
+                sort = Sort.Output;
+                kind = None;
+                combine = Combine.Max;
+              } ∷ [];
+          channels = [];
+          variables = [];
+        }) }
     ensures domains { IfOk result (λ s. length (domains_of s) ≡ 1) }
 {
     let a = signal(alloc, b"A", 0, Sort::Input, None, Combine::Max)?;
@@ -148,7 +183,32 @@ fn two_signals(alloc: Global) -> Result<System, NoMemory>
 
 // One domain, over the valued signals `P`, `N` and `C`.
 fn valued_signals(alloc: Global) -> Result<System, NoMemory>
-    ensures tables { IfOk result (λ s. tables_of s ≡ record { signals = record { name = codes "P"; domain = 0; sort = Sort.Input; kind = Some Kind.Boolean; combine = Combine.Or } ∷ record { name = codes "N"; domain = 0; sort = Sort.Output; kind = Some Kind.Int; combine = Combine.Max } ∷ record { name = codes "C"; domain = 0; sort = Sort.Output; kind = Some Kind.Char; combine = Combine.Max } ∷ []; channels = []; variables = [] }) }
+    ensures tables { IfOk result (λ s. tables_of s ≡
+        record {
+          signals = record {
+            name = codes "P";
+            domain = 0;
+            sort = Sort.Input;
+            kind = Some Kind.Boolean;
+            combine = Combine.Or;
+          } ∷
+              record {
+                name = codes "N";
+                domain = 0;
+                sort = Sort.Output;
+                kind = Some Kind.Int;
+                combine = Combine.Max;
+              } ∷
+              record {
+                name = codes "C";
+                domain = 0;
+                sort = Sort.Output;
+                kind = Some Kind.Char;
+                combine = Combine.Max;
+              } ∷ [];
+          channels = [];
+          variables = [];
+        }) }
     ensures domains { IfOk result (λ s. length (domains_of s) ≡ 1) }
 {
     let p = signal(
@@ -169,7 +229,34 @@ fn valued_signals(alloc: Global) -> Result<System, NoMemory>
 // Domain 0 sends on the channel `C` and has the signal `D` and a local signal; domain 1 receives and
 // has the signal `B`.
 fn two_domains(alloc: Global) -> Result<System, NoMemory>
-    ensures tables { IfOk result (λ s. tables_of s ≡ record { signals = record { name = codes "B"; domain = 1; sort = Sort.Output; kind = Some Kind.Int; combine = Combine.Max } ∷ record { name = codes "D"; domain = 0; sort = Sort.Output; kind = None; combine = Combine.Max } ∷ record { name = codes "L"; domain = 0; sort = Sort.Local; kind = None; combine = Combine.Max } ∷ []; channels = record { name = codes "C"; kind = Kind.Int; sender = 0; receiver = 1 } ∷ []; variables = [] }) }
+    ensures tables { IfOk result (λ s. tables_of s ≡
+        record {
+          signals = record {
+            name = codes "B";
+            domain = 1;
+            sort = Sort.Output;
+            kind = Some Kind.Int;
+            combine = Combine.Max;
+          } ∷
+              record {
+                name = codes "D";
+                domain = 0;
+                sort = Sort.Output;
+                kind = None;
+                combine = Combine.Max;
+              } ∷
+              record {
+                name = codes "L";
+                domain = 0;
+                sort = Sort.Local;
+                kind = None;
+                combine = Combine.Max;
+              } ∷
+              [];
+          channels = record { name = codes "C"; kind = Kind.Int; sender = 0; receiver = 1 } ∷
+              [];
+          variables = [];
+        }) }
     ensures domains { IfOk result (λ s. length (domains_of s) ≡ 2) }
 {
     let b = signal(alloc, b"B", 1, Sort::Output, Some(Kind::Int), Combine::Max)?;
@@ -351,7 +438,18 @@ fn a_failed_call_leaves_a_prefix_of_the_text(rt: HostRuntime) -> Result<(), Fail
 #[tactic(auto, using(crate::proofs::LongLogs::long_steps))]
 fn long_log(alloc: Global, ticks: u32) -> Result<Log, NoMemory>
     requires { ticks ≤ 100_000 }
-    ensures fits { IfOk result (λ log. IsLog (record { signals = record { name = codes "A"; domain = 0; sort = Sort.Output; kind = None; combine = Combine.Max } ∷ []; channels = []; variables = [] }) 0 (logged log)) }
+    ensures fits { IfOk result (λ log. IsLog (record {
+      signals = record {
+        name = codes "A";
+        domain = 0;
+        sort = Sort.Output;
+        kind = None;
+        combine = Combine.Max;
+      } ∷
+          [];
+      channels = [];
+      variables = [];
+    }) 0 (logged log)) }
     ensures signals { IfOk result (λ log. log.signals ≡ 1) }
 {
     let mut log = Log::open(alloc, 1, ticks)?;

@@ -32,8 +32,10 @@ use sj_io::{Sink, WriteError};
 #[tactic(auto, using(crate::proofs::PrinterTexts::print_steps))]
 pub fn print<K: Sink>(run: &Run, system: &System, out: &mut K) -> Result<(), WriteError>
     requires { HoldsRun system.now run.now }
-    ensures ok { OnOk result (TakesMore (K.taken out.old) (K.taken out.new) (run_text (tables_of system.now) (run_state run.now))) }
-    ensures takes_prefix { OnErr result (TakesPrefix (K.taken out.old) (K.taken out.new) (run_text (tables_of system.now) (run_state run.now))) }
+    ensures ok { OnOk result (TakesMore (K.taken out.old) (K.taken out.new)
+        (run_text (tables_of system.now) (run_state run.now))) }
+    ensures takes_prefix { OnErr result (TakesPrefix (K.taken out.old) (K.taken out.new)
+        (run_text (tables_of system.now) (run_state run.now))) }
     ensures cause { OnErr result (Rose (K.faults out.old) (K.faults out.new)) }
     ensures later { K.faults out.old ≤ K.faults out.new }
 {
@@ -44,7 +46,8 @@ pub fn print<K: Sink>(run: &Run, system: &System, out: &mut K) -> Result<(), Wri
 
 fn put_run<K: Sink>(printer: &mut Printer, out: &mut K, run: &Run, system: &System)
     requires { HoldsRun system.now run.now }
-    ensures { Prints K.taken K.faults printer.old printer.new out.old out.new (run_text (tables_of system.now) (run_state run.now)) }
+    ensures { Prints K.taken K.faults printer.old printer.new out.old out.new
+        (run_text (tables_of system.now) (run_state run.now)) }
 {
     put_domains(printer, out, run, system);
     put_channels(printer, out, run, system);
@@ -53,7 +56,8 @@ fn put_run<K: Sink>(printer: &mut Printer, out: &mut K, run: &Run, system: &Syst
 #[tactic(auto, using(crate::proofs::LineTexts::domain_steps))]
 fn put_domains<K: Sink>(printer: &mut Printer, out: &mut K, run: &Run, system: &System)
     requires { HoldsRun system.now run.now }
-    ensures { Prints K.taken K.faults printer.old printer.new out.old out.new (text_of_lines (domain_lines (tables_of system.now) 0 (run_state run.now).logs)) }
+    ensures { Prints K.taken K.faults printer.old printer.new out.old out.new
+        (text_of_lines (domain_lines (tables_of system.now) 0 (run_state run.now).logs)) }
 {
     for (i, log) in run.domains.iter().enumerate() {
         put_domain(printer, out, system.tables(), i as u64, log);
@@ -63,7 +67,9 @@ fn put_domains<K: Sink>(printer: &mut Printer, out: &mut K, run: &Run, system: &
 fn put_domain<K: Sink>(printer: &mut Printer, out: &mut K, tables: &Tables, domain: u64, log: &Log)
     requires signals { log.now.signals ≡ length (interface_of tables.now domain) }
     requires few { length (interface_of tables.now domain) ≤ most_signals }
-    ensures { Prints K.taken K.faults printer.old printer.new out.old out.new (text_of_lines (domain_line domain (logged log.now) ∷ tick_lines (interface_signals tables.now domain) 1 log.now.entries)) }
+    ensures { Prints K.taken K.faults printer.old printer.new out.old out.new
+        (text_of_lines (domain_line domain (logged log.now) ∷
+        tick_lines (interface_signals tables.now domain) 1 log.now.entries)) }
 {
     put_head(printer, out, domain, log);
     let mut numbers = [0; MOST_SIGNALS];
@@ -106,7 +112,8 @@ fn is_local_sort(sort: Sort) -> bool
 
 // `domain D ticks N` and how the domain stands.
 fn put_head<K: Sink>(printer: &mut Printer, out: &mut K, domain: u64, log: &Log)
-    ensures { Prints K.taken K.faults printer.old printer.new out.old out.new (domain_line domain (logged log.now) ++ 10 ∷ []) }
+    ensures { Prints K.taken K.faults printer.old printer.new out.old out.new
+        (domain_line domain (logged log.now) ++ 10 ∷ []) }
 {
     printer.put(out, b"domain ");
     printer.put_number(out, domain);
@@ -117,7 +124,8 @@ fn put_head<K: Sink>(printer: &mut Printer, out: &mut K, domain: u64, log: &Log)
 }
 
 fn put_word<K: Sink>(printer: &mut Printer, out: &mut K, ended: bool)
-    ensures { (mark : Mark) → ended ≡ is_over mark → Prints K.taken K.faults printer.old printer.new out.old out.new (mark_word mark) }
+    ensures { (mark : Mark) → ended ≡ is_over mark →
+        Prints K.taken K.faults printer.old printer.new out.old out.new (mark_word mark) }
 {
     if ended {
         printer.put(out, b" ended");
@@ -130,7 +138,8 @@ fn put_word<K: Sink>(printer: &mut Printer, out: &mut K, ended: bool)
 fn put_ticks<K: Sink>(printer: &mut Printer, out: &mut K, tables: &Tables, own: &[usize], log: &Log)
     requires signals { log.now.signals ≡ length own.now }
     requires known { All (λ n. n < length tables.now.signals) own.now }
-    ensures { Prints K.taken K.faults printer.old printer.new out.old out.new (text_of_lines (tick_lines (map (signal_at tables.now) own.now) 1 log.now.entries)) }
+    ensures { Prints K.taken K.faults printer.old printer.new out.old out.new
+        (text_of_lines (tick_lines (map (signal_at tables.now) own.now) 1 log.now.entries)) }
 {
     for i in 0..log.len() {
         put_tick(printer, out, tables, own, log, i + 1);
@@ -149,7 +158,9 @@ fn put_tick<K: Sink>(
     requires signals { log.now.signals ≡ length own.now }
     requires known { All (λ n. n < length tables.now.signals) own.now }
     requires tick { (1 ≤ tick) × (tick ≤ length log.now.entries) }
-    ensures { Prints K.taken K.faults printer.old printer.new out.old out.new (tick_line (map (signal_at tables.now) own.now) tick (entry_at log.now.entries (tick - 1)) ++ 10 ∷ []) }
+    ensures { Prints K.taken K.faults printer.old printer.new out.old out.new
+        (tick_line (map (signal_at tables.now) own.now) tick (entry_at log.now.entries (tick - 1))
+        ++ 10 ∷ []) }
 {
     printer.put_number(out, u64::from(tick));
     printer.put(out, b" @");
@@ -171,7 +182,9 @@ fn put_signals<K: Sink>(
     requires signals { log.now.signals ≡ length own.now }
     requires known { All (λ n. n < length tables.now.signals) own.now }
     requires tick { (1 ≤ tick) × (tick ≤ length log.now.entries) }
-    ensures { Prints K.taken K.faults printer.old printer.new out.old out.new (signal_texts (map (signal_at tables.now) own.now) (entry_at log.now.entries (tick - 1)).statuses) }
+    ensures { Prints K.taken K.faults printer.old printer.new out.old out.new
+        (signal_texts (map (signal_at tables.now) own.now)
+        (entry_at log.now.entries (tick - 1)).statuses) }
 {
     let signals = tables.signals.as_slice();
     for i in 0..log.signals() {
@@ -182,7 +195,8 @@ fn put_signals<K: Sink>(
 
 #[tactic(auto, using(crate::proofs::PrinterTexts::put_steps))]
 fn put_signal<K: Sink>(printer: &mut Printer, out: &mut K, signal: &SignalInfo, status: Option<i64>)
-    ensures { Prints K.taken K.faults printer.old printer.new out.old out.new (signal_text signal.now status) }
+    ensures { Prints K.taken K.faults printer.old printer.new out.old out.new
+        (signal_text signal.now status) }
 {
     match status {
         Some(value) => put_present(printer, out, signal, value),
@@ -192,7 +206,8 @@ fn put_signal<K: Sink>(printer: &mut Printer, out: &mut K, signal: &SignalInfo, 
 
 // A space and `NAME`, or `NAME=VALUE`.
 fn put_present<K: Sink>(printer: &mut Printer, out: &mut K, signal: &SignalInfo, value: i64)
-    ensures { Prints K.taken K.faults printer.old printer.new out.old out.new (signal_text signal.now (Some value)) }
+    ensures { Prints K.taken K.faults printer.old printer.new out.old out.new
+        (signal_text signal.now (Some value)) }
 {
     printer.put(out, b" ");
     printer.put(out, signal.name.bytes());
@@ -201,7 +216,8 @@ fn put_present<K: Sink>(printer: &mut Printer, out: &mut K, signal: &SignalInfo,
 
 #[tactic(auto, using(crate::proofs::PrinterTexts::put_steps))]
 fn put_part<K: Sink>(printer: &mut Printer, out: &mut K, kind: Option<Kind>, value: i64)
-    ensures { Prints K.taken K.faults printer.old printer.new out.old out.new (value_part kind value) }
+    ensures { Prints K.taken K.faults printer.old printer.new out.old out.new
+        (value_part kind value) }
 {
     match kind {
         Some(k) => put_valued(printer, out, k, value),
@@ -210,7 +226,8 @@ fn put_part<K: Sink>(printer: &mut Printer, out: &mut K, kind: Option<Kind>, val
 }
 
 fn put_valued<K: Sink>(printer: &mut Printer, out: &mut K, kind: Kind, value: i64)
-    ensures { Prints K.taken K.faults printer.old printer.new out.old out.new (value_part (Some kind) value) }
+    ensures { Prints K.taken K.faults printer.old printer.new out.old out.new
+        (value_part (Some kind) value) }
 {
     printer.put(out, b"=");
     put_value(printer, out, kind, value);
@@ -218,7 +235,8 @@ fn put_valued<K: Sink>(printer: &mut Printer, out: &mut K, kind: Kind, value: i6
 
 // `true` or `false` for the kind `boolean`, and else the number.
 fn put_value<K: Sink>(printer: &mut Printer, out: &mut K, kind: Kind, value: i64)
-    ensures { Prints K.taken K.faults printer.old printer.new out.old out.new (value_text kind value) }
+    ensures { Prints K.taken K.faults printer.old printer.new out.old out.new
+        (value_text kind value) }
 {
     match kind {
         Kind::Boolean => put_truth(printer, out, value != 0),
@@ -241,7 +259,8 @@ fn put_truth<K: Sink>(printer: &mut Printer, out: &mut K, truth: bool)
 #[tactic(auto, using(crate::proofs::LineTexts::channel_steps))]
 fn put_channels<K: Sink>(printer: &mut Printer, out: &mut K, run: &Run, system: &System)
     requires { HoldsRun system.now run.now }
-    ensures { Prints K.taken K.faults printer.old printer.new out.old out.new (text_of_lines (channel_lines (tables_of system.now) 0 (run_state run.now).histories)) }
+    ensures { Prints K.taken K.faults printer.old printer.new out.old out.new
+        (text_of_lines (channel_lines (tables_of system.now) 0 (run_state run.now).histories)) }
 {
     let channels = system.tables().channels.as_slice();
     for (i, history) in run.channels.iter().enumerate() {
@@ -255,7 +274,9 @@ fn put_channel<K: Sink>(
     channel: &ChannelInfo,
     history: &History,
 )
-    ensures { Prints K.taken K.faults printer.old printer.new out.old out.new (text_of_lines (channel_line channel.now.name history.now.rows ∷ join_lines channel.now.kind 1 history.now.rows)) }
+    ensures { Prints K.taken K.faults printer.old printer.new out.old out.new
+        (text_of_lines (channel_line channel.now.name history.now.rows ∷
+        join_lines channel.now.kind 1 history.now.rows)) }
 {
     put_channel_head(printer, out, channel, history);
     put_joins(printer, out, channel.kind, history);
@@ -268,7 +289,8 @@ fn put_channel_head<K: Sink>(
     channel: &ChannelInfo,
     history: &History,
 )
-    ensures { Prints K.taken K.faults printer.old printer.new out.old out.new (channel_line channel.now.name history.now.rows ++ 10 ∷ []) }
+    ensures { Prints K.taken K.faults printer.old printer.new out.old out.new
+        (channel_line channel.now.name history.now.rows ++ 10 ∷ []) }
 {
     printer.put(out, b"channel ");
     printer.put(out, channel.name.bytes());
@@ -279,7 +301,8 @@ fn put_channel_head<K: Sink>(
 
 #[tactic(auto, using(crate::proofs::LineTexts::join_steps))]
 fn put_joins<K: Sink>(printer: &mut Printer, out: &mut K, kind: Kind, history: &History)
-    ensures { Prints K.taken K.faults printer.old printer.new out.old out.new (text_of_lines (join_lines kind 1 history.now.rows)) }
+    ensures { Prints K.taken K.faults printer.old printer.new out.old out.new
+        (text_of_lines (join_lines kind 1 history.now.rows)) }
 {
     for i in 0..history.len() {
         put_join(printer, out, kind, i + 1, history.row(i + 1));
@@ -288,7 +311,8 @@ fn put_joins<K: Sink>(printer: &mut Printer, out: &mut K, kind: Kind, history: &
 
 // `J VALUE S R @STAMP`
 fn put_join<K: Sink>(printer: &mut Printer, out: &mut K, kind: Kind, join: u32, row: JoinRow)
-    ensures { Prints K.taken K.faults printer.old printer.new out.old out.new (join_line kind join row ++ 10 ∷ []) }
+    ensures { Prints K.taken K.faults printer.old printer.new out.old out.new
+        (join_line kind join row ++ 10 ∷ []) }
 {
     printer.put_number(out, u64::from(join));
     printer.put(out, b" ");

@@ -27,10 +27,12 @@ causes_itself = Local 0 (pos 0) (Present (IsPresent 0) (Emit 0 None) Nothing)
 -- `abort(immediate A){emit A; pause;} emit B;` and the same with `weak abort`, where A and B have the numbers 0
 -- and 1
 abbrev pub sees_own_emission : Stmt
-sees_own_emission = stmt.Seq (Abort false true (IsPresent 0) (stmt.Seq (Emit 0 None) Pause)) (Emit 1 None)
+sees_own_emission =
+    stmt.Seq (Abort false true (IsPresent 0) (stmt.Seq (Emit 0 None) Pause)) (Emit 1 None)
 
 abbrev pub weakly_sees_own_emission : Stmt
-weakly_sees_own_emission = stmt.Seq (Abort true true (IsPresent 0) (stmt.Seq (Emit 0 None) Pause)) (Emit 1 None)
+weakly_sees_own_emission =
+    stmt.Seq (Abort true true (IsPresent 0) (stmt.Seq (Emit 0 None) Pause)) (Emit 1 None)
 
 -- `emit S(#R);`, where S has the number 0, and R this one
 abbrev pub emits_value_of : ℕ → Stmt
@@ -48,7 +50,8 @@ abbrev pub bare_leaf : (number at : ℕ) → Tree
 bare_leaf number at = One (record { number = number; at = at; nodes = 0; reads = []; writes = [] })
 
 abbrev pub emission_leaf : (number at nodes : ℕ) (reads : List ℕ) (signal : ℕ) → Tree
-emission_leaf number at nodes reads signal = One (record { number = number; at = at; nodes = nodes; reads = reads; writes = signal ∷ [] })
+emission_leaf number at nodes reads signal =
+    One (record { number = number; at = at; nodes = nodes; reads = reads; writes = signal ∷ [] })
 
 -- Either the first pause ends, and `emit A` and the second pause start, or the second pause ends and `emit B` starts.
 abbrev pub two_pauses_resumed : Tree
@@ -90,7 +93,8 @@ pause_if_present = Present (IsPresent 0) Pause Nothing
 
 -- `if(x < 5){emit A;}`
 abbrev pub emit_if_less : Stmt
-emit_if_less = If (Binary kind.Boolean op2.Less (Variable kind.Int 0) (number 5)) (Emit 0 None) Nothing
+emit_if_less =
+    If (Binary kind.Boolean op2.Less (Variable kind.Int 0) (number 5)) (Emit 0 None) Nothing
 
 -- `present(!A && B){emit C;}`
 abbrev pub emit_if_alone : Stmt
@@ -101,17 +105,26 @@ emit_if_alone = Present (tests.Both (Not (IsPresent 0)) (IsPresent 1)) (Emit 2 N
 abbrev pub joints : Stmt
 joints =
     Trap (Par (Suspend false (IsPresent 0) Pause)
-    (Abort false false (IsPresent 0) (Present (IsPresent 1) Pause (If (Binary kind.Boolean op2.Less (Variable kind.Int 0) (number 5)) Pause Pause))))
+    (Abort false false (IsPresent 0)
+    (Present (IsPresent 1) Pause
+    (If (Binary kind.Boolean op2.Less (Variable kind.Int 0) (number 5)) Pause Pause))))
 
 abbrev pub test_leaf : (number at signal : ℕ) → Tree
-test_leaf number at signal = One (record { number = number; at = at; nodes = 1; reads = signal ∷ []; writes = [] })
+test_leaf number at signal =
+    One (record { number = number; at = at; nodes = 1; reads = signal ∷ []; writes = [] })
 
 -- In the starting tick neither the suspend nor the abort looks at its test.
 abbrev pub joints_started : Tree
 joints_started =
     Both
     (bare_leaf 0 1)
-    (Seq (test_leaf 1 3 1) (Alt (bare_leaf 2 4) (Seq (One (record { number = 3; at = 5; nodes = 3; reads = []; writes = [] })) (Alt (bare_leaf 4 6) (bare_leaf 5 7)))))
+    (Seq (test_leaf 1 3 1) (Alt (bare_leaf 2 4) (Seq (One (record {
+      number = 3;
+      at = 5;
+      nodes = 3;
+      reads = [];
+      writes = [];
+    })) (Alt (bare_leaf 4 6) (bare_leaf 5 7)))))
 
 -- In a later tick both do, before their bodies, and no choice is made anew.
 abbrev pub joints_resumed : Tree
@@ -126,7 +139,8 @@ sees_beside = Par (Emit 0 None) (Present (IsPresent 0) Pause (Emit 1 None))
 
 -- `{present(A){emit B;}} || {present(B){emit A;}}`
 abbrev pub see_each_other : Stmt
-see_each_other = Par (Present (IsPresent 0) (Emit 1 None) Nothing) (Present (IsPresent 1) (Emit 0 None) Nothing)
+see_each_other =
+    Par (Present (IsPresent 0) (Emit 1 None) Nothing) (Present (IsPresent 1) (Emit 0 None) Nothing)
 
 -- `suspend(A){pause; emit A;}`, and the same with `abort`
 abbrev pub suspends_itself : Stmt
@@ -141,13 +155,17 @@ term_at at form = record { at = at; form = form }
 -- The term of `{emit A;} || {present(A){pause;}else{emit B;}}`, and that of its second branch, with the places of
 -- their first tokens in this text.
 abbrev pub testing_term : Term
-testing_term = term_at 14 (form.Present (sig_test.Signal 0) (term_at 25 plain.Pause) (term_at 37 (plain.Emit 1 None)))
+testing_term =
+    term_at 14 (form.Present (sig_test.Signal 0) (term_at 25 plain.Pause)
+    (term_at 37 (plain.Emit 1 None)))
 
 abbrev pub beside_term : Term
 beside_term = term_at 0 (form.Par (term_at 1 (plain.Emit 0 None) ∷ testing_term ∷ []))
 
 abbrev pub beside_term_started : Tree
-beside_term_started = Both (emission_leaf 0 1 0 [] 0) (Seq (test_leaf 1 14 0) (Alt (bare_leaf 2 25) (emission_leaf 3 37 0 [] 1)))
+beside_term_started =
+    Both (emission_leaf 0 1 0 [] 0)
+    (Seq (test_leaf 1 14 0) (Alt (bare_leaf 2 25) (emission_leaf 3 37 0 [] 1)))
 
 abbrev pub beside_term_resumed : Tree
 beside_term_resumed = bare_leaf 0 25
@@ -155,27 +173,33 @@ beside_term_resumed = bare_leaf 0 25
 -- `x = 1; pause; x = #S; pause; emit S(x + 4);`, where S has the number 0
 abbrev pub reads_before_emission : Stmt
 reads_before_emission =
-    sequence (Assign 0 (number 1) ∷ Pause ∷ Assign 0 (SignalValue kind.Int 0) ∷ Pause ∷ Emit 0 (Some (plus (Variable kind.Int 0) (number 4))) ∷ [])
+    sequence (Assign 0 (number 1) ∷ Pause ∷ Assign 0 (SignalValue kind.Int 0) ∷ Pause ∷
+    Emit 0 (Some (plus (Variable kind.Int 0) (number 4))) ∷ [])
 
 -- `if(b){x = #S;}else{emit S(x + 2);} pause;`
 abbrev pub reads_or_emits : Stmt
 reads_or_emits =
-    sequence (If (Variable kind.Boolean 1) (Assign 0 (SignalValue kind.Int 0)) (Emit 0 (Some (plus (Variable kind.Int 0) (number 2)))) ∷ Pause ∷ [])
+    sequence (If (Variable kind.Boolean 1) (Assign 0 (SignalValue kind.Int 0))
+    (Emit 0 (Some (plus (Variable kind.Int 0) (number 2)))) ∷ Pause ∷ [])
 
 -- `present(A){present(B){emit C;}}else{present(C){emit B;}}`, where A, B and C have the numbers 0 to 2
 abbrev pub choices_see_each_other : Stmt
-choices_see_each_other = Present (IsPresent 0) (Present (IsPresent 1) (Emit 2 None) Nothing) (Present (IsPresent 2) (Emit 1 None) Nothing)
+choices_see_each_other =
+    Present (IsPresent 0) (Present (IsPresent 1) (Emit 2 None) Nothing)
+    (Present (IsPresent 2) (Emit 1 None) Nothing)
 
 -- `-#S + (long) (#R + #C)` and `!(A && !B) || D`, where the signals have the numbers 0 to 2 and 5 and the channel 4
 abbrev pub reading_all : Expression
 reading_all =
-    Binary kind.Long op2.Add (Unary kind.Int op1.Minus (SignalValue kind.Int 0)) (Cast kind.Long (plus (SignalValue kind.Int 1) (ChannelValue kind.Int 4)))
+    Binary kind.Long op2.Add (Unary kind.Int op1.Minus (SignalValue kind.Int 0))
+    (Cast kind.Long (plus (SignalValue kind.Int 1) (ChannelValue kind.Int 4)))
 
 abbrev pub testing_all : Test
 testing_all = tests.Either (Not (tests.Both (IsPresent 0) (Not (IsPresent 2)))) (IsPresent 5)
 
 abbrev pub reading_leaf : (writes : List ℕ) → Tree
-reading_leaf writes = One (record { number = 0; at = 0; nodes = 7; reads = 0 ∷ 1 ∷ []; writes = writes })
+reading_leaf writes =
+    One (record { number = 0; at = 0; nodes = 7; reads = 0 ∷ 1 ∷ []; writes = writes })
 
 abbrev pub testing_leaf : Tree
 testing_leaf = One (record { number = 0; at = 0; nodes = 7; reads = 0 ∷ 2 ∷ 5 ∷ []; writes = [] })

@@ -90,7 +90,8 @@ pub fn ends0(term: &Term) -> bool
 // Whether each of the parts may end in its starting tick.
 #[cycle(ends0)]
 fn all_end0(parts: &[Term]) -> bool
-    ensures { list_all exits_fit (map statement parts.now) ≡ true → result ≡ list_all ends0 (map statement parts.now) }
+    ensures { list_all exits_fit (map statement parts.now) ≡ true →
+        result ≡ list_all ends0 (map statement parts.now) }
 {
     for i in 0..parts.len() {
         let part = &parts[i];
@@ -136,7 +137,8 @@ pub fn ends1(term: &Term) -> bool
 #[cycle(ends1)]
 #[tactic(auto, using(crate::proofs::ResumingEnds::ends_of_parts))]
 fn some_end1(parts: &[Term]) -> bool
-    ensures { list_all exits_fit (map statement parts.now) ≡ true → result ≡ some_ends1 (map statement parts.now) }
+    ensures { list_all exits_fit (map statement parts.now) ≡ true →
+        result ≡ some_ends1 (map statement parts.now) }
 {
     for i in (0..parts.len()).rev() {
         let part = &parts[i];
@@ -153,7 +155,8 @@ fn some_end1(parts: &[Term]) -> bool
 
 /// The weight of a domain's statement, up to 2^32. Its exits are to depths below 64.
 pub fn weight(term: &Term) -> u64
-    ensures { exits_fit (statement term.now) ≡ true → result ≡ capped (weight_of (statement term.now)) }
+    ensures { exits_fit (statement term.now) ≡ true →
+        result ≡ capped (weight_of (statement term.now)) }
 {
     let found = measured(term);
     sum(found.starting_weight, found.resuming_weight)
@@ -206,7 +209,8 @@ fn measured(term: &Term) -> Measure
 
 #[cycle(measure)]
 fn all_in_turn(parts: &[Term]) -> Measure
-    ensures { list_all exits_fit (map statement parts.now) ≡ true → IsMeasure (sequence (map statement parts.now)) result }
+    ensures { list_all exits_fit (map statement parts.now) ≡ true →
+        IsMeasure (sequence (map statement parts.now)) result }
 {
     let mut rest = None;
     for i in (0..parts.len()).rev() {
@@ -222,7 +226,8 @@ fn all_in_turn(parts: &[Term]) -> Measure
 
 #[cycle(measure)]
 fn all_beside(parts: &[Term]) -> Measure
-    ensures { list_all exits_fit (map statement parts.now) ≡ true → IsMeasure (parallel (map statement parts.now)) result }
+    ensures { list_all exits_fit (map statement parts.now) ≡ true →
+        IsMeasure (parallel (map statement parts.now)) result }
 {
     let mut rest = None;
     for i in (0..parts.len()).rev() {
@@ -245,7 +250,8 @@ fn given(test: bool, number: u64) -> u64
 
 // A part before others in turn.
 fn before(own: Measure, after: Option<Measure>) -> Measure
-    ensures { (p : Stmt) → (ps : List Stmt) → IsMeasure p own → IsMeasureOfParts sequence_from ps after →
+    ensures { (p : Stmt) → (ps : List Stmt) → IsMeasure p own →
+        IsMeasureOfParts sequence_from ps after →
         IsMeasure (sequence_from p ps) result }
 {
     match after {
@@ -256,7 +262,8 @@ fn before(own: Measure, after: Option<Measure>) -> Measure
 
 // A part beside others.
 fn joined(own: Measure, others: Option<Measure>) -> Measure
-    ensures { (p : Stmt) → (ps : List Stmt) → IsMeasure p own → IsMeasureOfParts parallel_from ps others →
+    ensures { (p : Stmt) → (ps : List Stmt) → IsMeasure p own →
+        IsMeasureOfParts parallel_from ps others →
         IsMeasure (parallel_from p ps) result }
 {
     match others {
@@ -268,8 +275,10 @@ fn joined(own: Measure, others: Option<Measure>) -> Measure
 // Statements that end at once. `nodes` are those of their expression, here and below.
 fn at_once(nodes: u64) -> Measure
     ensures nothing { nodes ≡ 0 → IsMeasure Nothing result }
-    ensures emission { (s : ℕ) → (e : Option Expression) → nodes ≡ capped (nodes_of_value e) → IsMeasure (Emit s e) result }
-    ensures assignment { (x : ℕ) → (e : Expression) → nodes ≡ capped (nodes_of e) → IsMeasure (Assign x e) result }
+    ensures emission { (s : ℕ) → (e : Option Expression) → nodes ≡ capped (nodes_of_value e) →
+        IsMeasure (Emit s e) result }
+    ensures assignment { (x : ℕ) → (e : Expression) → nodes ≡ capped (nodes_of e) →
+        IsMeasure (Assign x e) result }
 {
     Measure {
         starting: ENDS,
@@ -283,7 +292,8 @@ fn at_once(nodes: u64) -> Measure
 // Statements that wait for a later tick. A value is looked at in the starting tick alone.
 fn waits(nodes: u64) -> Measure
     ensures pause { nodes ≡ 0 → IsMeasure Pause result }
-    ensures send { (c : ℕ) → (e : Expression) → nodes ≡ capped (nodes_of e) → IsMeasure (Send c e) result }
+    ensures send { (c : ℕ) → (e : Expression) → nodes ≡ capped (nodes_of e) →
+        IsMeasure (Send c e) result }
     ensures receive { (c : ℕ) → nodes ≡ 0 → IsMeasure (Receive c) result }
 {
     Measure {
@@ -318,7 +328,8 @@ fn exits_to(depth: u32) -> Measure
 }
 
 fn one_of(left: Exits, right: Exits) -> Exits
-    ensures { (v : Ways) → (w : Ways) → AreWays v left → AreWays w right → AreWays (either v w) result }
+    ensures { (v : Ways) → (w : Ways) → AreWays v left → AreWays w right →
+        AreWays (either v w) result }
 {
     Exits {
         ends: left.ends | right.ends,
@@ -328,9 +339,11 @@ fn one_of(left: Exits, right: Exits) -> Exits
 
 // One of two statements, by a condition or a test.
 fn either(nodes: u64, yes: Measure, other: Measure) -> Measure
-    ensures by_condition { (e : Expression) → (p : Stmt) → (q : Stmt) → nodes ≡ capped (nodes_of e) → IsMeasure p yes →
+    ensures by_condition { (e : Expression) → (p : Stmt) → (q : Stmt) →
+        nodes ≡ capped (nodes_of e) → IsMeasure p yes →
         IsMeasure q other → IsMeasure (If e p q) result }
-    ensures by_test { (t : Test) → (p : Stmt) → (q : Stmt) → nodes ≡ capped (nodes_of_test t) → IsMeasure p yes →
+    ensures by_test { (t : Test) → (p : Stmt) → (q : Stmt) → nodes ≡ capped (nodes_of_test t) →
+        IsMeasure p yes →
         IsMeasure q other → IsMeasure (Present t p q) result }
 {
     let branches = sum(yes.starting_weight, other.starting_weight);
@@ -345,7 +358,8 @@ fn either(nodes: u64, yes: Measure, other: Measure) -> Measure
 
 // The first ways, and the second ones where the first end.
 fn followed(first: Exits, second: Exits) -> Exits
-    ensures { (v : Ways) → (w : Ways) → AreWays v first → AreWays w second → AreWays (in_turn v w) result }
+    ensures { (v : Ways) → (w : Ways) → AreWays v first → AreWays w second →
+        AreWays (in_turn v w) result }
 {
     Exits {
         ends: first.ends & second.ends,
@@ -354,7 +368,8 @@ fn followed(first: Exits, second: Exits) -> Exits
 }
 
 fn in_turn(first: Measure, second: Measure) -> Measure
-    ensures { (p : Stmt) → (q : Stmt) → IsMeasure p first → IsMeasure q second → IsMeasure (Seq p q) result }
+    ensures { (p : Stmt) → (q : Stmt) → IsMeasure p first → IsMeasure q second →
+        IsMeasure (Seq p q) result }
 {
     let starts = given(first.starting.ends, second.starting_weight);
     let restarts = given(first.resuming.ends, second.starting_weight);
@@ -390,7 +405,8 @@ fn again(body: Measure) -> Measure
 
 // Both statements, of which each has to end.
 fn beside(left: Measure, right: Measure) -> Measure
-    ensures { (p : Stmt) → (q : Stmt) → IsMeasure p left → IsMeasure q right → IsMeasure (Par p q) result }
+    ensures { (p : Stmt) → (q : Stmt) → IsMeasure p left → IsMeasure q right →
+        IsMeasure (Par p q) result }
 {
     let resumes = left.resumes | right.resumes;
     let left_over = left.starting.ends | left.resuming.ends;
@@ -434,16 +450,19 @@ fn trapped(body: Measure) -> Measure
 
 // In a later tick a test is looked at where the body goes on.
 fn tested(nodes: u64, body: Measure) -> u64
-    ensures strong_or_weak { (weak : Bool) → (armed : Bool) → (t : Test) → (p : Stmt) → nodes ≡ capped (nodes_of_test t) →
+    ensures strong_or_weak { (weak : Bool) → (armed : Bool) → (t : Test) → (p : Stmt) →
+        nodes ≡ capped (nodes_of_test t) →
         IsMeasure p body → result ≡ capped (resuming_weight (Abort weak armed t p)) }
-    ensures suspension { (armed : Bool) → (t : Test) → (p : Stmt) → nodes ≡ capped (nodes_of_test t) →
+    ensures suspension { (armed : Bool) → (t : Test) → (p : Stmt) →
+        nodes ≡ capped (nodes_of_test t) →
         IsMeasure p body → result ≡ capped (resuming_weight (Suspend armed t p)) }
 {
     sum(given(body.resumes, sum(1, nodes)), body.resuming_weight)
 }
 
 fn aborted(immediate: bool, nodes: u64, body: Measure) -> Measure
-    ensures { (weak : Bool) → (t : Test) → (p : Stmt) → nodes ≡ capped (nodes_of_test t) → IsMeasure p body →
+    ensures { (weak : Bool) → (t : Test) → (p : Stmt) → nodes ≡ capped (nodes_of_test t) →
+        IsMeasure p body →
         IsMeasure (Abort weak immediate t p) result }
 {
     let test = given(immediate, sum(1, nodes));
@@ -463,7 +482,8 @@ fn aborted(immediate: bool, nodes: u64, body: Measure) -> Measure
 }
 
 fn suspended(nodes: u64, body: Measure) -> Measure
-    ensures { (armed : Bool) → (t : Test) → (p : Stmt) → nodes ≡ capped (nodes_of_test t) → IsMeasure p body →
+    ensures { (armed : Bool) → (t : Test) → (p : Stmt) → nodes ≡ capped (nodes_of_test t) →
+        IsMeasure p body →
         IsMeasure (Suspend armed t p) result }
 {
     Measure {

@@ -12,7 +12,8 @@ use kernel_terms::{Expr, Form, SigTest, Term};
 #[tactic(auto, using(crate::proofs::PartLists::parts_of_terms))]
 pub fn if_parts_fit(term: &Term, cond: &Expr, yes: &Term, other: &Term)
     requires form { term.now.form ≡ Form.If cond.now yes.now other.now }
-    ensures statement { statement term.now ≡ If (expression cond.now) (statement yes.now) (statement other.now) }
+    ensures statement { statement term.now ≡
+        If (expression cond.now) (statement yes.now) (statement other.now) }
     ensures left { exits_fit (statement term.now) ≡ true → exits_fit (statement yes.now) ≡ true }
     ensures right { exits_fit (statement term.now) ≡ true → exits_fit (statement other.now) ≡ true }
 {}
@@ -21,7 +22,8 @@ pub fn if_parts_fit(term: &Term, cond: &Expr, yes: &Term, other: &Term)
 #[tactic(auto, using(crate::proofs::PartLists::parts_of_terms))]
 pub fn present_parts_fit(term: &Term, looked_at: &SigTest, yes: &Term, other: &Term)
     requires form { term.now.form ≡ Form.Present looked_at.now yes.now other.now }
-    ensures statement { statement term.now ≡ Present (test looked_at.now) (statement yes.now) (statement other.now) }
+    ensures statement { statement term.now ≡
+        Present (test looked_at.now) (statement yes.now) (statement other.now) }
     ensures left { exits_fit (statement term.now) ≡ true → exits_fit (statement yes.now) ≡ true }
     ensures right { exits_fit (statement term.now) ≡ true → exits_fit (statement other.now) ≡ true }
 {}
@@ -31,7 +33,8 @@ pub fn present_parts_fit(term: &Term, looked_at: &SigTest, yes: &Term, other: &T
 pub fn sequence_parts_fit(term: &Term, parts: &[Term])
     requires form { term.now.form ≡ Form.Seq parts.now }
     ensures statement { statement term.now ≡ sequence (map statement parts.now) }
-    ensures fit { exits_fit (statement term.now) ≡ true → list_all exits_fit (map statement parts.now) ≡ true }
+    ensures fit { exits_fit (statement term.now) ≡ true →
+        list_all exits_fit (map statement parts.now) ≡ true }
 {}
 
 /// The parts that stand beside each other.
@@ -39,7 +42,8 @@ pub fn sequence_parts_fit(term: &Term, parts: &[Term])
 pub fn parallel_parts_fit(term: &Term, parts: &[Term])
     requires form { term.now.form ≡ Form.Par parts.now }
     ensures statement { statement term.now ≡ parallel (map statement parts.now) }
-    ensures fit { exits_fit (statement term.now) ≡ true → list_all exits_fit (map statement parts.now) ≡ true }
+    ensures fit { exits_fit (statement term.now) ≡ true →
+        list_all exits_fit (map statement parts.now) ≡ true }
 {}
 
 /// The parts from the i-th on.
@@ -47,6 +51,8 @@ pub fn parallel_parts_fit(term: &Term, parts: &[Term])
 pub fn first_part_fits(parts: &[Term], i: usize, part: &Term)
     requires within { i < length parts.now }
     requires part { part.now ≡ slice_index_or parts.now i part.now }
-    ensures parts { map statement (drop i parts.now) ≡ statement part.now ∷ map statement (drop (i + 1) parts.now) }
-    ensures fits { list_all exits_fit (map statement parts.now) ≡ true → exits_fit (statement part.now) ≡ true }
+    ensures parts { map statement (drop i parts.now) ≡
+        statement part.now ∷ map statement (drop (i + 1) parts.now) }
+    ensures fits { list_all exits_fit (map statement parts.now) ≡ true →
+        exits_fit (statement part.now) ≡ true }
 {}

@@ -66,8 +66,10 @@ pub fn branches_that_see_each_other()
 
 /// A later tick of a suspend or of a strong abort whose body emits the signal that it looks at isn't causal.
 pub fn resumed_tests_see_own_emission()
-    ensures suspension { (at : ℕ → ℕ) → IsCausalIf (tree_of_some 1 (resuming_shape at 0 suspends_itself)) → ⊥ }
-    ensures abortion { (at : ℕ → ℕ) → IsCausalIf (tree_of_some 1 (resuming_shape at 0 aborts_itself)) → ⊥ }
+    ensures suspension { (at : ℕ → ℕ) →
+        IsCausalIf (tree_of_some 1 (resuming_shape at 0 suspends_itself)) → ⊥ }
+    ensures abortion { (at : ℕ → ℕ) →
+        IsCausalIf (tree_of_some 1 (resuming_shape at 0 aborts_itself)) → ⊥ }
 {}
 
 /// The trees of a term have the places of its statements. Both are causal.
@@ -98,7 +100,8 @@ pub fn weights_of_tests()
 
 /// An emission doesn't precede what reads its signal in another tick or in another branch of a choice.
 pub fn alternatives_have_no_order()
-    ensures sequence { (at : ℕ → ℕ) → IsCausalIf (tree_of_some 1 (resuming_shape at 0 reads_before_emission)) }
+    ensures sequence { (at : ℕ → ℕ) →
+        IsCausalIf (tree_of_some 1 (resuming_shape at 0 reads_before_emission)) }
     ensures choice { (at : ℕ → ℕ) → IsCausal (tree_of 1 (starting_shape at 0 reads_or_emits)) }
 {}
 
@@ -109,8 +112,10 @@ pub fn emission_precedes_reads_in_other_branches()
 
 /// What leaves with an expression or a test read, and how many nodes they have.
 pub fn leaves_read_their_expressions()
-    ensures emission { tree_of 6 (starting_shape nowhere 0 (Emit 3 (Some reading_all))) ≡ reading_leaf (3 ∷ []) }
-    ensures assignment { tree_of 6 (starting_shape nowhere 0 (Assign 0 reading_all)) ≡ reading_leaf [] }
+    ensures emission { tree_of 6 (starting_shape nowhere 0 (Emit 3 (Some reading_all))) ≡
+        reading_leaf (3 ∷ []) }
+    ensures assignment { tree_of 6 (starting_shape nowhere 0 (Assign 0 reading_all)) ≡
+        reading_leaf [] }
     ensures send { tree_of 6 (starting_shape nowhere 0 (Send 0 reading_all)) ≡ reading_leaf [] }
     ensures condition { tree_of 6 (starting_shape nowhere 0 (If reading_all Nothing Nothing))
         ≡ Seq (reading_leaf []) (Alt (bare_leaf 1 0) (bare_leaf 2 0)) }
@@ -120,6 +125,8 @@ pub fn leaves_read_their_expressions()
 
 /// Nothing starts behind what can't end in a later tick.
 pub fn nothing_starts_behind_endless_part()
-    ensures sequence { tree_of_some 1 (resuming_shape nowhere 0 (stmt.Seq endless (Emit 0 None))) ≡ Some endless_resumed }
-    ensures looped { tree_of_some 1 (resuming_shape nowhere 0 (Loop endless)) ≡ Some endless_resumed }
+    ensures sequence { tree_of_some 1 (resuming_shape nowhere 0 (stmt.Seq endless (Emit 0 None))) ≡
+        Some endless_resumed }
+    ensures looped { tree_of_some 1 (resuming_shape nowhere 0 (Loop endless)) ≡
+        Some endless_resumed }
 {}

@@ -69,7 +69,9 @@ recall_reply (Taken j) = Some j
 
 -- the cell after a move
 abbrev pub cell_step : CellMove → CellState → CellState
-cell_step (Offer a v s) c = cell_of a (after_own_offer v s (standing_at (other a) c)) (after_offer a v s (standing_at (other a) c))
+cell_step (Offer a v s) c =
+    cell_of a (after_own_offer v s (standing_at (other a) c))
+    (after_offer a v s (standing_at (other a) c))
 cell_step (Recall a) c = cell_of a Empty (standing_at (other a) c)
 
 abbrev pub cell_reply : CellMove → CellState → Option Joined

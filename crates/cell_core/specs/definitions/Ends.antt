@@ -68,6 +68,8 @@ pub record EndCall : Type 0 where
 
 -- The ends went from the first to the last through exactly these calls, in this order and with these
 -- answers.
-abbrev pub Through : {S : Type 0} → (S → ℕ → CellMove → Option Joined → S → Type 0) → S → List EndCall → S → Type 0
+abbrev pub Through : {S : Type 0} → (S → ℕ → CellMove → Option Joined → S → Type 0) → S →
+    List EndCall → S → Type 0
 Through moved first [] last = last ≡ first
-Through {S} moved first (c ∷ calls) last = (next : S) × moved first c.at c.what c.answer next × Through moved next calls last
+Through {S} moved first (c ∷ calls) last =
+    (next : S) × moved first c.at c.what c.answer next × Through moved next calls last

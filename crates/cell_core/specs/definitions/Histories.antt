@@ -35,7 +35,8 @@ if_side Receiver Receiver es e = es ++ e ∷ []
 -- the moves of one side in their order, each with its place and its reply
 abbrev pub entries : Side → List CellMove → List Entry
 entries a [] = []
-entries a (m ∷ ms) = if_side a (side_of m) (entries a ms) (entry (length ms) m (cell_reply m (cell_after ms)))
+entries a (m ∷ ms) =
+    if_side a (side_of m) (entries a ms) (entry (length ms) m (cell_reply m (cell_after ms)))
 
 -- The entries of the two ends are a legal history: taken by place, they are moves of a cell from two
 -- empty sides, with the cell's replies.
@@ -51,7 +52,8 @@ Runs c [] = Unit {0}
 Runs c (e ∷ es) = CanMove e.what c × (e.reply ≡ cell_reply e.what c) × Runs (cell_step e.what c) es
 
 -- the entry is the next one of its side's list
-abbrev pub TakesNext : Side → Entry → List Entry → List Entry → (List Entry → List Entry → Type 0) → Type 0
+abbrev pub TakesNext : Side → Entry → List Entry → List Entry → (List Entry → List Entry → Type 0) →
+    Type 0
 TakesNext Sender e ss rs Then = (rest : List Entry) × (ss ≡ e ∷ rest) × Then rest rs
 TakesNext Receiver e ss rs Then = (rest : List Entry) × (rs ≡ e ∷ rest) × Then ss rest
 
@@ -59,7 +61,8 @@ TakesNext Receiver e ss rs Then = (rest : List Entry) × (rs ≡ e ∷ rest) × 
 -- numbers from n on, each once.
 abbrev pub AreByPlace : ℕ → List Entry → List Entry → List Entry → Type 0
 AreByPlace n [] ss rs = (ss ≡ []) × (rs ≡ [])
-AreByPlace n (e ∷ es) ss rs = (e.place ≡ n) × TakesNext (side_of e.what) e ss rs (AreByPlace (suc n) es)
+AreByPlace n (e ∷ es) ss rs =
+    (e.place ≡ n) × TakesNext (side_of e.what) e ss rs (AreByPlace (suc n) es)
 
 -- The entries of the two ends, merged by place, are moves of a cell from two empty sides.
 pub record RunsByPlace (sender receiver : List Entry) : Type 0 where

@@ -74,7 +74,8 @@ abbrev pub turned : Joined → Joined
 turned j = record { value = j.value; mine = j.theirs; theirs = j.mine }
 
 -- the moves of a side with its recall at place n, where its offer stands
-abbrev pub Recalled : Side → ℕ → Option StandingOffer → List Entry → Option Joined → List Entry → Type 0
+abbrev pub Recalled : Side → ℕ → Option StandingOffer → List Entry → Option Joined → List Entry →
+    Type 0
 Recalled side n None es answer after = (answer ≡ None) × (after ≡ es)
 Recalled side n (Some o) es answer after = after ≡ es ++ entry n (Recall side) answer ∷ []
 
@@ -85,7 +86,8 @@ pub record Settles (a b : EndState) (sent received : Option Joined) (joins : ℕ
   pub sender : List Entry
   pub receiver : List Entry
   pub at_sender : Recalled Sender (length a.moves + length b.moves) a.offer a.moves sent sender
-  pub at_receiver : Recalled Receiver (length sender + length b.moves) b.offer b.moves received receiver
+  pub at_receiver : Recalled Receiver (length sender + length b.moves) b.offer b.moves received
+      receiver
   pub legal : IsCellHistory sender receiver
   pub same : map turned (joins_in sender) ≡ joins_in receiver
   pub count_sent : length (joins_in sender) ≡ joins

@@ -63,8 +63,12 @@ waiting_copy c =
       live = n;
       emits = [];
       variables = c.wires.variables;
-      sets = λ k. cond (k == r) (record { condition = n + 8; value = n } ∷ record { condition = n + 9; value = n + 9 } ∷ [])
-          (cond (k == r + 1) (record { condition = n + 8; value = n + 1 } ∷ []) (record { condition = n + 8; value = n + 2 } ∷ record { condition = n + 9; value = n + 2 } ∷ []));
+      sets =
+          λ k. cond (k == r) (record { condition = n + 8; value = n } ∷
+          record { condition = n + 9; value = n + 9 } ∷ [])
+          (cond (k == r + 1) (record { condition = n + 8; value = n + 1 } ∷
+          []) (record { condition = n + 8; value = n + 2 } ∷
+          record { condition = n + 9; value = n + 2 } ∷ []));
       next = n + 10;
     }
 
@@ -79,7 +83,11 @@ resume tables Nothing c = nothing_built c
 resume tables Pause c =
     let n = c.next in
     record {
-      equations = record { wire = n; formula = Get c.register } ∷ record { wire = n + 1; formula = And c.go n } ∷ record { wire = n + 2; formula = Status (n + 1) ended_code } ∷ record { wire = n + 3; formula = And c.hold c.keep } ∷ [];
+      equations =
+          record { wire = n; formula = Get c.register } ∷
+          record { wire = n + 1; formula = And c.go n } ∷
+          record { wire = n + 2; formula = Status (n + 1) ended_code } ∷
+          record { wire = n + 3; formula = And c.hold c.keep } ∷ [];
       status = n + 2;
       live = n;
       emits = [];
@@ -93,12 +101,14 @@ resume tables (If e p q) c =
     let m = c.register + registers tables p in
     let a = resume tables p (part_context c.go 2 c) in
     let b = resume tables q (other_context c.go m a c) in
-    alternatives (writes1 p) (writes1 q) b.live c.next (c.next + 1) (below m a.sets) (from m b.sets) (live_own (c.next + 1) a b) a b
+    alternatives (writes1 p) (writes1 q) b.live c.next (c.next + 1) (below m a.sets) (from m b.sets)
+    (live_own (c.next + 1) a b) a b
 resume tables (Present t p q) c =
     let m = c.register + registers tables p in
     let a = resume tables p (part_context c.go 2 c) in
     let b = resume tables q (other_context c.go m a c) in
-    alternatives (writes1 p) (writes1 q) b.live c.next (c.next + 1) (below m a.sets) (from m b.sets) (live_own (c.next + 1) a b) a b
+    alternatives (writes1 p) (writes1 q) b.live c.next (c.next + 1) (below m a.sets) (from m b.sets)
+    (live_own (c.next + 1) a b) a b
 resume tables (Seq p q) c =
     let n = c.next in
     let m = c.register + registers tables p in
@@ -107,7 +117,8 @@ resume tables (Seq p q) c =
     let b = starting_if (ends1 p) (start tables q d) d in
     let x = behind (n + 2) a.live (below m a.sets) (from m b.sets) (turn_own (n + 4) a) a b in
     let y = resume tables q (other_context c.go m x c) in
-    alternatives (writes_behind p q) (writes1 q) y.live n (n + 1) x.sets (from m y.sets) (live_own (n + 1) x y) x y
+    alternatives (writes_behind p q) (writes1 q) y.live n (n + 1) x.sets (from m y.sets)
+    (live_own (n + 1) x y) x y
 resume tables (Loop p) c =
     let n = c.next in
     let a = resume tables p (part_context c.go 3 c) in
@@ -121,9 +132,13 @@ resume tables (Par p q) c =
 resume tables (Trap p) c = of_trap_copy c (resume tables p (part_context c.go 1 c))
 resume tables (Exit d) c = nothing_built c
 resume tables (Abort true armed t p) c = weak_copy t c (resume tables p (weak_context c))
-resume tables (Abort false armed t p) c = let a = resume tables p (tested_context c) in tested_copy t a.live ended_code c a
-resume tables (Suspend armed t p) c = let a = resume tables p (held_context c) in tested_copy t a.live paused_code c a
-resume tables (Local s v p) c = local_copy tables s (last_formula (signal_at tables s).kind c.register) c (resume tables p (local_context tables s c))
+resume tables (Abort false armed t p) c =
+    let a = resume tables p (tested_context c) in tested_copy t a.live ended_code c a
+resume tables (Suspend armed t p) c =
+    let a = resume tables p (held_context c) in tested_copy t a.live paused_code c a
+resume tables (Local s v p) c =
+    local_copy tables s (last_formula (signal_at tables s).kind c.register) c
+    (resume tables p (local_context tables s c))
 resume tables (Send ch e) c = waiting_copy c
 resume tables (Receive ch) c = waiting_copy c
 resume tables (SendWaits ch v) c = nothing_built c

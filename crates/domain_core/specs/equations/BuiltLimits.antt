@@ -21,7 +21,8 @@ abbrev pub resuming_copies : Plain → ℕ
 resuming_copies Nothing = 0
 resuming_copies Pause = 1
 resuming_copies (Emit s) = 0
-resuming_copies (Seq p q) = resuming_copies p + cond (ends1 p) (starting_copies q) 0 + resuming_copies q
+resuming_copies (Seq p q) =
+    resuming_copies p + cond (ends1 p) (starting_copies q) 0 + resuming_copies q
 resuming_copies (Loop p) = resuming_copies p + cond (ends1 p) (starting_copies p) 0
 resuming_copies (Send c n) = 1
 resuming_copies (Receive c) = 1

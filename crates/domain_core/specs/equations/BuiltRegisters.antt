@@ -30,14 +30,17 @@ abbrev pub rest : Plain → ℕ → (ℕ → Bool) → Stmt
 rest Nothing r on = rules.Nothing
 rest Pause r on = rules.Nothing
 rest (Emit s) r on = rules.Nothing
-rest (Seq p q) r on = cond (live p r on) (rules.Seq (rest p r on) (whole q)) (rest q (r + registers p) on)
+rest (Seq p q) r on =
+    cond (live p r on) (rules.Seq (rest p r on) (whole q)) (rest q (r + registers p) on)
 rest (Loop p) r on = rules.Seq (rest p r on) (rules.Loop (whole p))
 rest (Send c n) r on = cond (on (r + 1)) (rules.Sent c) (rules.SendWaits c n)
 rest (Receive c) r on = cond (on (r + 1)) (rules.Received c) (rules.ReceiveWaits c)
 
 -- at most one part of each sequence is live
 abbrev pub LivesOnce : Plain → ℕ → (ℕ → Bool) → Type 0
-LivesOnce (Seq p q) r on = (live p r on && live q (r + registers p) on ≡ false) × LivesOnce p r on × LivesOnce q (r + registers p) on
+LivesOnce (Seq p q) r on =
+    (live p r on && live q (r + registers p) on ≡ false) × LivesOnce p r on ×
+    LivesOnce q (r + registers p) on
 LivesOnce (Loop p) r on = LivesOnce p r on
 LivesOnce _ r on = Unit {0}
 

@@ -16,7 +16,14 @@ pub record Part : Type 0 where
 
 -- both parts, of which the second tells the end
 abbrev pub joined : Part → Part → Part
-joined a b = record { equations = a.equations ++ b.equations; done = b.done; sets = a.sets ++ b.sets; emits = a.emits ++ b.emits }
+joined a b =
+    record {
+      equations = a.equations ++ b.equations;
+      done = b.done;
+      sets = a.sets ++
+          b.sets;
+      emits = a.emits ++ b.emits;
+    }
 
 -- the second part only where the first may end
 abbrev pub joined_if : Bool → Part → Part → Part
@@ -37,11 +44,31 @@ start (Receive c) base go r = record { equations = []; done = 0; sets = (r, go) 
 
 -- the end of either part
 abbrev pub either : ℕ → Part → Part → Part
-either base a b = record { equations = a.equations ++ (b.equations ++ record { wire = base + length a.equations + length b.equations; formula = Or a.done b.done } ∷ []); done = base + length a.equations + length b.equations; sets = a.sets ++ b.sets; emits = a.emits ++ b.emits }
+either base a b =
+    record {
+      equations = a.equations ++
+          (b.equations ++
+          record {
+            wire = base + length a.equations + length b.equations;
+            formula = Or a.done b.done;
+          } ∷
+          []);
+      done = base + length a.equations + length b.equations;
+      sets = a.sets ++
+          b.sets;
+      emits = a.emits ++ b.emits;
+    }
 
 -- both parts, of which the first tells the end
 abbrev pub beside : Part → Part → Part
-beside a b = record { equations = a.equations ++ b.equations; done = a.done; sets = a.sets ++ b.sets; emits = a.emits ++ b.emits }
+beside a b =
+    record {
+      equations = a.equations ++ b.equations;
+      done = a.done;
+      sets = a.sets ++
+          b.sets;
+      emits = a.emits ++ b.emits;
+    }
 
 -- a resuming sequence: the copy of its second part, that of its first, and the second part's start only where the first may end
 abbrev pub either_if : Bool → ℕ → Part → Part → Part → Part
@@ -70,11 +97,19 @@ waiting base r = record {
 
 -- The resuming copy. It goes on from the registers that are on.
 abbrev pub resume : Plain → ℕ → ℕ → Part
-resume Pause base r = record { equations = record { wire = base; formula = Get r } ∷ []; done = base; sets = []; emits = [] }
+resume Pause base r =
+    record {
+      equations = record { wire = base; formula = Get r } ∷
+          [];
+      done = base;
+      sets = [];
+      emits = [];
+    }
 resume (Seq p q) base r =
     let c = resume q base (r + registers p) in
     let a = resume p (base + length c.equations) r in
-    either_if (ends1 p) base c a (start q (base + length c.equations + length a.equations) a.done (r + registers p))
+    either_if (ends1 p) base c a
+    (start q (base + length c.equations + length a.equations) a.done (r + registers p))
 resume (Loop p) base r =
     let a = resume p base r in
     again_if (ends1 p) a (start p (base + length a.equations) a.done r)
@@ -91,4 +126,6 @@ is_set wires (s ∷ ss) n = (nat_eq s.0 n && is_on wires s.1) || is_set wires ss
 -- the emissions whose wires are on, in order
 abbrev pub emitted : List ℤ → List (ℕ × ℕ) → List Emission
 emitted wires [] = []
-emitted wires (s ∷ ss) = cond (is_on wires s.1) (record { signal = s.0; value = pos 0 } ∷ emitted wires ss) (emitted wires ss)
+emitted wires (s ∷ ss) =
+    cond (is_on wires s.1) (record { signal = s.0; value = pos 0 } ∷
+    emitted wires ss) (emitted wires ss)

@@ -28,14 +28,22 @@ registers_of (p ∷ ps) = registers p + registers_of ps
 abbrev pub before_if : Bool → ℕ → ℕ → Part → Part → Part
 before_if true base done a b =
     let ab = joined a b in
-    record { equations = ab.equations ++ record { wire = base + length ab.equations; formula = Or done ab.done } ∷ []; done = base + length ab.equations; sets = ab.sets; emits = ab.emits }
+    record {
+      equations = ab.equations ++
+          record { wire = base + length ab.equations; formula = Or done ab.done } ∷
+          [];
+      done = base + length ab.equations;
+      sets = ab.sets;
+      emits = ab.emits;
+    }
 before_if false base done a b = record a { done = done }
 
 abbrev pub resume_before : Plain → List Plain → ℕ → ℕ → ℕ → Part
 resume_before p [] base done r = resume p base r
 resume_before p (q ∷ qs) base done r =
     let a = resume p base r in
-    before_if (ends1 p) base done a (start_list (q ∷ qs) (base + length a.equations) a.done (r + registers p))
+    before_if (ends1 p) base done a (start_list (q ∷
+    qs) (base + length a.equations) a.done (r + registers p))
 
 abbrev pub resume_list : List Plain → ℕ → ℕ → Part
 resume_list [] base r = record { equations = []; done = 0; sets = []; emits = [] }

@@ -16,13 +16,15 @@ use Rattle.domain_core.specs.equations.BuiltCodes.{IsStarting, IsResuming}
 -- What one tick of a built statement over so many signals told: from the statement `from`, which of the own signals are present,
 -- the registers after it, and whether the domain ended. The tick is given for all last values of channels
 -- and all variables.
-pub record TellsTick (tables : Tables) (p : Stmt) (signals : ℕ) (own : List ℕ) (from : Stmt) (present : List Bool) (new : ℕ → ℤ) (ended : Bool) : Type 0 where
+pub record TellsTick (tables : Tables) (p : Stmt) (signals : ℕ) (own : List ℕ) (from : Stmt)
+    (present : List Bool) (new : ℕ → ℤ) (ended : Bool) : Type 0 where
   pub env : Env
   pub tick : (last x : ℕ → ℤ) → Tick
   pub ticks : (last x : ℕ → ℤ) → Ticks tables last from env x (tick last x)
   pub variables : (last x : ℕ → ℤ) → (tick last x).variables ≡ x
   pub shows : present ≡ map (λ s. (env s).present) own
-  pub emitted : (last x : ℕ → ℤ) (s : ℕ) → s < signals → (env s).present ≡ is_emitted (tick last x).emits s
+  pub emitted : (last x : ℕ → ℤ) (s : ℕ) → s < signals →
+      (env s).present ≡ is_emitted (tick last x).emits s
   pub pure : (s : ℕ) → s < signals → (env s).value ≡ pos 0
   pub zeros : (last x : ℕ → ℤ) → All (λ (e : Emission). e.value ≡ pos 0) (tick last x).emits
   pub below : (last x : ℕ → ℤ) → All (λ (e : Emission). e.signal < signals) (tick last x).emits

@@ -25,7 +25,8 @@ pub record Finds (old new : Found) (ends : List EndOf) (p : Plain) (r : ℕ) : T
 
 abbrev pub all_plain_places : List EndOf → List Plain → ℕ → List EndPlace
 all_plain_places ends [] r = []
-all_plain_places ends (p ∷ ps) r = plain_places ends p r ++ all_plain_places ends ps (r + registers p)
+all_plain_places ends (p ∷ ps) r =
+    plain_places ends p r ++ all_plain_places ends ps (r + registers p)
 
 abbrev pub literals_of_all : List Plain → ℕ → List (ℕ × ℤ)
 literals_of_all [] r = []

@@ -17,7 +17,11 @@ no_channel c = false
 -- a domain once a join of one of its ends has completed there
 abbrev pub side_done : Side → ℕ → ℤ → DomainState → DomainState
 side_done Sender c v s = record s { statement = rewritten (λ k. k == c) no_channel s.statement }
-side_done Receiver c v s = record s { statement = rewritten no_channel (λ k. k == c) s.statement; last = put_at s.last c v }
+side_done Receiver c v s =
+    record s {
+      statement = rewritten no_channel (λ k. k == c) s.statement;
+      last = put_at s.last c v;
+    }
 
 abbrev pub end_done : EndOf → Option Joined → DomainState → DomainState
 end_done e None s = s
@@ -26,7 +30,8 @@ end_done e (Some j) s = side_done e.side e.channel j.value s
 -- a domain once the joins answered at the first so many ends have completed there
 abbrev pub with_answers : List EndOf → List (Option Joined) → ℕ → DomainState → DomainState
 with_answers ends answers zero s = s
-with_answers ends answers (suc n) s = end_done (end_at ends n) (get_or answers n None) (with_answers ends answers n s)
+with_answers ends answers (suc n) s =
+    end_done (end_at ends n) (get_or answers n None) (with_answers ends answers n s)
 
 -- the greatest stamp of the joins after this number of ticks, and 0 where there are none
 abbrev pub newest : ℕ → List EndJoin → ℕ

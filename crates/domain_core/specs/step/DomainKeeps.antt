@@ -25,7 +25,8 @@ use Rattle.domain_core.specs.step.StepParts.{PartsHold, FitsAfter}
 -- the program of a domain of the system
 pub record IsProgram (system : System) (d : ℕ) (program : Program) (source : Plain) : Type 0 where
   pub statement : source_of system d ≡ whole source
-  pub are : AreCodes program.codes source (length (tables_of system).signals) (interface_of (tables_of system) d)
+  pub are : AreCodes program.codes source (length (tables_of system).signals)
+      (interface_of (tables_of system) d)
   pub ends : program.ends.items ≡ ends_of (tables_of system) d
   pub places : program.codes.places.items ≡ plain_places (ends_of (tables_of system) d) source 0
   pub last : program.last.items ≡ last_places (tables_of system) d (whole source)
@@ -44,16 +45,22 @@ pub record HasScratch (program : Program) (scratch : Scratch) : Type 0 where
 
 -- Ends stand only after a tick that paused, and wait then. The registers fit, and the stamps are those of the
 -- last tick and of the joins.
-pub record IsState (program : Program) (source : Plain) (system : System) (d : ℕ) (state : State) (ticks : ℕ) (mark : Mark) : Type 0 where
-  pub registers : length state.registers.items ≡ length (domain_registers (tables_of system) d (whole source))
-  pub fits : mark ≡ Going → FitsAfter (tables_of system) source ticks (register_at state.registers.items)
-  pub stands : (k : ℕ) → k < length program.ends.items → get_or state.standing.items k false ≡ true → 0 < ticks
-  pub goes : (k : ℕ) → k < length program.ends.items → get_or state.standing.items k false ≡ true → mark ≡ Going
+pub record IsState (program : Program) (source : Plain) (system : System) (d : ℕ) (state : State)
+    (ticks : ℕ) (mark : Mark) : Type 0 where
+  pub registers : length state.registers.items ≡
+      length (domain_registers (tables_of system) d (whole source))
+  pub fits : mark ≡ Going →
+      FitsAfter (tables_of system) source ticks (register_at state.registers.items)
+  pub stands : (k : ℕ) → k < length program.ends.items →
+      get_or state.standing.items k false ≡ true → 0 < ticks
+  pub goes : (k : ℕ) → k < length program.ends.items → get_or state.standing.items k false ≡ true →
+      mark ≡ Going
   pub last : state.stamp < 2 ^ 62
   pub cause : state.cause ≡ max state.stamp (newest_of ticks (joins_in state.joins.items))
   pub later : (t : ℕ) → ticks < t → newest_of t (joins_in state.joins.items) ≡ 0
 
-pub record Keeps (system : System) (d : ℕ) (program : Program) (state : State) (scratch : Scratch) (log : LogState) : Type 0 where
+pub record Keeps (system : System) (d : ℕ) (program : Program) (state : State) (scratch : Scratch)
+    (log : LogState) : Type 0 where
   pub source : Plain
   pub is_program : IsProgram system d program source
   pub memory : HasScratch program scratch

@@ -36,11 +36,13 @@ pub record PlaceFits (ends n : ℕ) (p : EndPlace) : Type 0 where
   pub value : p.met + 1 < n
 
 abbrev pub PlacesFit : List EndPlace → ℕ → ℕ → Type 0
-PlacesFit places ends n = (i : ℕ) (p : EndPlace) → i < length places → PlaceFits ends n (get_or places i p)
+PlacesFit places ends n =
+    (i : ℕ) (p : EndPlace) → i < length places → PlaceFits ends n (get_or places i p)
 
 -- each receiver has the register of its last value among the first n
 pub record LastFits (last : List ℕ) (ends : List EndOf) (n : ℕ) : Type 0 where
-  pub place : (k : ℕ) → k < length ends → (end_at ends k).side ≡ Receiver → receivers_before ends k < length last
+  pub place : (k : ℕ) → k < length ends → (end_at ends k).side ≡ Receiver →
+      receivers_before ends k < length last
   pub register : (i : ℕ) → i < length last → get_or last i 0 < n
 
 -- from n to m, each place has its `met` right behind its `on`, and the next place's are behind it
@@ -73,7 +75,8 @@ kept_at ends last k (Some j) r = with_last ends last k j.value r
 
 abbrev pub kept : List EndOf → List ℕ → List (Option Joined) → ℕ → (ℕ → ℤ) → ℕ → ℤ
 kept ends last answers zero r = r
-kept ends last answers (suc n) r = kept_at ends last n (get_or answers n None) (kept ends last answers n r)
+kept ends last answers (suc n) r =
+    kept_at ends last n (get_or answers n None) (kept ends last answers n r)
 
 -- the first of two values that there is
 abbrev pub first_of : Option ℤ → Option ℤ → Option ℤ

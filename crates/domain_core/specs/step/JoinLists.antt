@@ -14,5 +14,7 @@ pub record StampsFit (j : Joined) : Type 0 where
   pub theirs : j.theirs < 2 ^ 62
 
 -- there is memory for a join more where one is answered
-pub record HasRoom (lists : List (Vec EndJoin Global)) (answers : List (Option Joined)) (n : ℕ) : Type 0 where
-  pub room : (k : ℕ) (v : Vec EndJoin Global) → n ≤ k → k < length lists → IsSome (get_or answers k None) → vec_len (get_or lists k v) < vec_capacity (get_or lists k v)
+pub record HasRoom (lists : List (Vec EndJoin Global)) (answers : List (Option Joined)) (n : ℕ) :
+    Type 0 where
+  pub room : (k : ℕ) (v : Vec EndJoin Global) → n ≤ k → k < length lists →
+      IsSome (get_or answers k None) → vec_len (get_or lists k v) < vec_capacity (get_or lists k v)

@@ -18,8 +18,20 @@ use Rattle.domain_core.specs.definitions.step.Domains.{DomainView, tables_in}
 abbrev pub pure_domains : Tables
 pure_domains = record {
   signals =
-      record { name = codes "D"; domain = 0; sort = sort.Output; kind = None; combine = combine.Max } ∷
-      record { name = codes "B"; domain = 1; sort = sort.Output; kind = None; combine = combine.Max } ∷ [];
+      record {
+        name = codes "D";
+        domain = 0;
+        sort = sort.Output;
+        kind = None;
+        combine = combine.Max;
+      } ∷
+      record {
+        name = codes "B";
+        domain = 1;
+        sort = sort.Output;
+        kind = None;
+        combine = combine.Max;
+      } ∷ [];
   channels = record { name = codes "C"; kind = kind.Int; sender = 0; receiver = 1 } ∷ [];
   variables = [];
 }

@@ -28,11 +28,15 @@ pending false = 0
 pub record PartsHold (program : Program) (state : State) (ticks room : ℕ) : Type 0 where
   pub standing : length state.standing.items ≡ length program.ends.items
   pub lists : length state.joins.items ≡ length program.ends.items
-  pub places : PlacesFit program.codes.places.items (length program.ends.items) (length state.registers.items)
+  pub places : PlacesFit program.codes.places.items (length program.ends.items)
+      (length state.registers.items)
   pub last : LastFits program.last.items program.ends.items (length state.registers.items)
   pub own : HaveOwnRegisters program.codes.places.items program.last.items
-  pub counts : (k : ℕ) → k < length program.ends.items → length (joins_at (joins_in state.joins.items) k) + pending (get_or state.standing.items k false) ≤ ticks
-  pub memory : (k : ℕ) (v : Vec EndJoin Global) → k < length program.ends.items → ticks + room ≤ vec_capacity (get_or state.joins.items k v)
+  pub counts : (k : ℕ) → k < length program.ends.items →
+      length (joins_at (joins_in state.joins.items) k) + pending
+      (get_or state.standing.items k false) ≤ ticks
+  pub memory : (k : ℕ) (v : Vec EndJoin Global) → k < length program.ends.items →
+      ticks + room ≤ vec_capacity (get_or state.joins.items k v)
   pub limit : state.cause ≤ 2 ^ 62
 
 -- no join was answered at any end
@@ -40,12 +44,17 @@ pub record AreNoJoins (answers : List (Option Joined)) : Type 0 where
   pub none : (k : ℕ) → get_or answers k None ≡ None
 
 -- The joins that were answered have completed the ends. All else stays.
-pub record Applies (program : Program) (old new : State) (answers : List (Option Joined)) (ticks : ℕ) : Type 0 where
-  pub registers : register_at new.registers.items ≡ registers_joined program.codes.places.items program.last.items program.ends.items answers (length program.ends.items) (register_at old.registers.items)
+pub record Applies (program : Program) (old new : State) (answers : List (Option Joined))
+    (ticks : ℕ) : Type 0 where
+  pub registers : register_at new.registers.items ≡
+      registers_joined program.codes.places.items program.last.items program.ends.items answers
+      (length program.ends.items) (register_at old.registers.items)
   pub register_count : length new.registers.items ≡ length old.registers.items
-  pub joins : joins_in new.joins.items ≡ add_joins ticks answers (length program.ends.items) (joins_in old.joins.items)
+  pub joins : joins_in new.joins.items ≡
+      add_joins ticks answers (length program.ends.items) (joins_in old.joins.items)
   pub lists : length new.joins.items ≡ length old.joins.items
-  pub memory : (k : ℕ) (v : Vec EndJoin Global) → k < length old.joins.items → vec_capacity (get_or old.joins.items k v) ≤ vec_capacity (get_or new.joins.items k v)
+  pub memory : (k : ℕ) (v : Vec EndJoin Global) → k < length old.joins.items →
+      vec_capacity (get_or old.joins.items k v) ≤ vec_capacity (get_or new.joins.items k v)
   pub cause : new.cause ≡ raised answers (length program.ends.items) old.cause
   pub limit : new.cause ≤ 2 ^ 62
   pub stamp : new.stamp ≡ old.stamp
@@ -56,7 +65,12 @@ abbrev pub FitsAfter : Tables → Plain → ℕ → (ℕ → ℤ) → Type 0
 FitsAfter tables p zero r = Unit {0}
 FitsAfter tables p (suc n) r = FitRegisters tables (whole p) 0 r × HoldsLiteral p 0 r
 
-pub record MakesCodeTick (codes : Codes) (ticks : ℕ) (old new : ℕ → ℤ) (present : List Bool) (ended : Bool) : Type 0 where
-  pub tells : (tables : Tables) (p : Plain) (n : ℕ) (own : List ℕ) → AreCodes codes p n own → FitsAfter tables p ticks old → TellsTick tables (whole p) n own (statement_held tables (whole p) ticks Going old) present new ended
-  pub literals : (tables : Tables) (p : Plain) (n : ℕ) (own : List ℕ) → AreCodes codes p n own → FitsAfter tables p ticks old → HoldsLiteral p 0 new
+pub record MakesCodeTick (codes : Codes) (ticks : ℕ) (old new : ℕ →
+    ℤ) (present : List Bool) (ended : Bool) : Type 0 where
+  pub tells : (tables : Tables) (p : Plain) (n : ℕ) (own : List ℕ) → AreCodes codes p n own →
+      FitsAfter tables p ticks old →
+      TellsTick tables (whole p) n own (statement_held tables (whole p) ticks Going old) present new
+      ended
+  pub literals : (tables : Tables) (p : Plain) (n : ℕ) (own : List ℕ) → AreCodes codes p n own →
+      FitsAfter tables p ticks old → HoldsLiteral p 0 new
   pub others : (k : ℕ) → codes.registers ≤ k → new k ≡ old k

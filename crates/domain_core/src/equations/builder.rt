@@ -32,7 +32,8 @@ pub struct Parts {
 pub fn start(parts: &mut Parts, term: &Term, go: u32, register: u32) -> Result<u32, NoMemory>
     requires built { is_built term.now ≡ true }
     requires room { register + registers (plain term.now) < 2 ^ 32 }
-    ensures { IfOk result (λ done. Adds parts.old parts.new (start (plain term.now) (length parts.old.equations.items) go register) done) }
+    ensures { IfOk result (λ done. Adds parts.old parts.new
+        (start (plain term.now) (length parts.old.equations.items) go register) done) }
 {
     match &term.form {
         Form::Pause | Form::Send { .. } | Form::Receive { .. } => {
@@ -63,7 +64,8 @@ pub fn start(parts: &mut Parts, term: &Term, go: u32, register: u32) -> Result<u
 fn start_all(parts: &mut Parts, list: &[Term], go: u32, register: u32) -> Result<u32, NoMemory>
     requires built { all_built (map is_built list.now) ≡ true }
     requires room { register + registers_of (map plain list.now) < 2 ^ 32 }
-    ensures { IfOk result (λ done. Adds parts.old parts.new (start_list (map plain list.now) (length parts.old.equations.items) go register) done) }
+    ensures { IfOk result (λ done. Adds parts.old parts.new
+        (start_list (map plain list.now) (length parts.old.equations.items) go register) done) }
 {
     let mut done = go;
     let mut next = register;
@@ -89,7 +91,9 @@ pub fn next_wire(equations: &[Equation]) -> Result<u32, NoMemory>
 
 // Adds an equation, and answers its wire.
 fn add(parts: &mut Parts, formula: Formula) -> Result<u32, NoMemory>
-    ensures equations { IfOk result (λ wire. parts.new.equations.items ≡ parts.old.equations.items ++ record { wire = length parts.old.equations.items; formula = formula } ∷ []) }
+    ensures equations { IfOk result (λ wire. parts.new.equations.items ≡
+        parts.old.equations.items ++
+        record { wire = length parts.old.equations.items; formula = formula } ∷ []) }
     ensures sets { parts.new.sets.items ≡ parts.old.sets.items }
     ensures emits { parts.new.emits.items ≡ parts.old.emits.items }
     ensures wire { IfOk result (λ wire. wire ≡ length parts.old.equations.items) }
@@ -102,7 +106,8 @@ fn add(parts: &mut Parts, formula: Formula) -> Result<u32, NoMemory>
 // Adds the resuming copy of a send or a receive.
 fn wait(parts: &mut Parts, register: u32) -> Result<u32, NoMemory>
     requires register { register + 1 < 2 ^ 32 }
-    ensures { IfOk result (λ done. Adds parts.old parts.new (waiting (length parts.old.equations.items) register) done) }
+    ensures { IfOk result (λ done. Adds parts.old parts.new
+        (waiting (length parts.old.equations.items) register) done) }
 {
     let on = add(parts, Formula::Get(register))?;
     let met = add(parts, Formula::Get(register + 1))?;
@@ -120,7 +125,8 @@ fn wait(parts: &mut Parts, register: u32) -> Result<u32, NoMemory>
 pub fn resume(parts: &mut Parts, term: &Term, register: u32) -> Result<u32, NoMemory>
     requires built { is_built term.now ≡ true }
     requires registers { register + registers (plain term.now) < 2 ^ 32 }
-    ensures { IfOk result (λ done. Adds parts.old parts.new (resume (plain term.now) (length parts.old.equations.items) register) done) }
+    ensures { IfOk result (λ done. Adds parts.old parts.new
+        (resume (plain term.now) (length parts.old.equations.items) register) done) }
 {
     match &term.form {
         Form::Pause => add(parts, Formula::Get(register)),
@@ -148,7 +154,8 @@ pub fn resume(parts: &mut Parts, term: &Term, register: u32) -> Result<u32, NoMe
 fn resume_all(parts: &mut Parts, list: &[Term], register: u32) -> Result<u32, NoMemory>
     requires built { all_built (map is_built list.now) ≡ true }
     requires registers { register + registers_of (map plain list.now) < 2 ^ 32 }
-    ensures { IfOk result (λ done. Adds parts.old parts.new (resume_list (map plain list.now) (length parts.old.equations.items) register) done) }
+    ensures { IfOk result (λ done. Adds parts.old parts.new
+        (resume_list (map plain list.now) (length parts.old.equations.items) register) done) }
 {
     let mut done = 0;
     let mut next = register + count_all(list) as u32;
@@ -173,8 +180,11 @@ fn resume_part(
 ) -> Result<u32, NoMemory>
     requires built { is_built term.now ≡ true }
     requires after { all_built (map is_built after.now) ≡ true }
-    requires registers { register + registers (plain term.now) + registers_of (map plain after.now) < 2 ^ 32 }
-    ensures { IfOk result (λ end. Adds parts.old parts.new (resume_before (plain term.now) (map plain after.now) (length parts.old.equations.items) done register) end) }
+    requires registers { register + registers (plain term.now) + registers_of (map plain after.now)
+        < 2 ^ 32 }
+    ensures { IfOk result (λ end. Adds parts.old parts.new
+        (resume_before (plain term.now) (map plain after.now) (length parts.old.equations.items)
+        done register) end) }
 {
     let again = resume(parts, term, register)?;
     if after.is_empty() {

@@ -25,9 +25,11 @@ pub fn first_part_is_built(list: &[Term], i: usize, part: &Term, after: &[Term])
     requires part { part.now ≡ slice_index_or list.now i part.now }
     requires after { after.now ≡ drop (i + 1) list.now }
     ensures parts { map plain (drop i list.now) ≡ plain part.now ∷ map plain after.now }
-    ensures registers { registers_of (map plain (drop i list.now)) ≤ registers_of (map plain list.now) }
+    ensures registers { registers_of (map plain (drop i list.now)) ≤ registers_of
+        (map plain list.now) }
     ensures built { all_built (map is_built list.now) ≡ true → is_built part.now ≡ true }
-    ensures after { all_built (map is_built list.now) ≡ true → all_built (map is_built after.now) ≡ true }
+    ensures after { all_built (map is_built list.now) ≡ true →
+        all_built (map is_built after.now) ≡ true }
 {}
 
 // The body of a loop.

@@ -14,7 +14,8 @@ use tick_code::{Code, Equation, Formula};
 // A wire that is on where either is. It is the second, where the first is wire 0, which is off.
 #[tactic(auto, using(crate::proofs::lemmas::equations::CircuitMerging::either_second))]
 fn either(equations: &mut Vec<Equation>, first: u32, second: u32) -> Result<u32, NoMemory>
-    ensures { IfOk result (λ wire. TellsEither equations.old.items equations.new.items first second wire) }
+    ensures { IfOk result (λ wire. TellsEither equations.old.items equations.new.items first second
+        wire) }
 {
     if first == 0 {
         return Ok(second);
@@ -38,7 +39,8 @@ fn merge(
 ) -> Result<Vec<u32>, NoMemory>
     requires some { 0 < length equations.old.items }
     requires below { Below count (length equations.old.items) pairs.now }
-    ensures { IfOk result (λ wires. Merges equations.old.items equations.new.items wires.items pairs.now count) }
+    ensures { IfOk result (λ wires. Merges equations.old.items equations.new.items wires.items
+        pairs.now count) }
 {
     let mut wires = vec![in alloc; 0u32; count as usize]?;
     for pair in pairs {
@@ -89,7 +91,9 @@ pub fn finish(
     requires sets { Below count (length parts.equations.items) parts.sets.items }
     requires fits { FitsFrame count parts.equations.items }
     requires ordered { IsOrdered 0 parts.equations.items }
-    ensures { IfOk result (λ built. (part : Part) → head ++ part.equations ≡ parts.equations.items → part.done ≡ end → part.sets ≡ parts.sets.items → part.emits ≡ parts.emits.items → Shows built.code built.present.items built.next.items built.end head part own.now count) }
+    ensures { IfOk result (λ built. (part : Part) → head ++ part.equations ≡ parts.equations.items →
+        part.done ≡ end → part.sets ≡ parts.sets.items → part.emits ≡ parts.emits.items →
+        Shows built.code built.present.items built.next.items built.end head part own.now count) }
 {
     let Parts {
         mut equations,
@@ -115,7 +119,8 @@ pub fn finish(
 pub fn step(built: &Built, registers: &mut [i64], wires: &mut [i64], present: &mut [bool]) -> bool
     requires can { CanStep built.now (length registers.old) (length present.old) }
     requires wires { length wires.old ≡ length built.now.code }
-    ensures { Steps built.now.code built.now.present.items built.now.next.items built.now.end registers.old wires.new present.new registers.new result }
+    ensures { Steps built.now.code built.now.present.items built.now.next.items built.now.end
+        registers.old wires.new present.new registers.new result }
 {
     built.code.run(registers, wires);
     for (i, at) in built.present.iter().enumerate() {

@@ -105,7 +105,8 @@ fn tick(
     requires can { CanStep built.now (length registers.old.items) (length present.old.items) }
     requires wires { length built.now.code ≤ length wires.old.items }
     requires literals { AreBelow (length registers.old.items) literals.now }
-    ensures steps { StepsOn built.now literals.now registers.old.items present.new.items registers.new.items result }
+    ensures steps { StepsOn built.now literals.now registers.old.items present.new.items
+        registers.new.items result }
     ensures registers { length registers.new.items ≡ length registers.old.items }
     ensures present { length present.new.items ≡ length present.old.items }
     ensures wires { length wires.new.items ≡ length wires.old.items }
@@ -146,7 +147,8 @@ impl Codes {
         ensures stands { statement term.now ≡ whole (plain term.now) }
         ensures codes { IfOk result (λ c. AreCodes c (plain term.now) signals own.now) }
         ensures few { IfOk result (λ c. c.registers < 2 ^ 31) }
-        ensures places { IfOk result (λ c. c.places.items ≡ plain_places ends.now (plain term.now) 0) }
+        ensures places { IfOk result (λ c. c.places.items ≡
+            plain_places ends.now (plain term.now) 0) }
     {
         let count = count(term) as u32;
         let starting = starting(alloc, term, signals, own, count)?;
@@ -209,9 +211,14 @@ impl Codes {
         requires registers { self.now.registers ≤ length registers.old.items }
         requires wires { length wires.old.items ≡ self.now.wires }
         requires present { length present.old.items ≡ self.now.signals }
-        ensures tells { (tables : Tables) (p : Plain) (n : ℕ) (own : List ℕ) → AreCodes self.now p n own → TellsTick tables (whole p) n own (whole p) present.new.items (λ k. get_or registers.new.items k (pos 0)) result }
-        ensures literals { (p : Plain) (n : ℕ) (own : List ℕ) → AreCodes self.now p n own → HoldsLiteral p 0 (λ k. get_or registers.new.items k (pos 0)) }
-        ensures others { (k : ℕ) → self.now.registers ≤ k → get_or registers.new.items k (pos 0) ≡ get_or registers.old.items k (pos 0) }
+        ensures tells { (tables : Tables) (p : Plain) (n : ℕ) (own : List ℕ) →
+            AreCodes self.now p n own →
+            TellsTick tables (whole p) n own (whole p) present.new.items
+            (λ k. get_or registers.new.items k (pos 0)) result }
+        ensures literals { (p : Plain) (n : ℕ) (own : List ℕ) → AreCodes self.now p n own →
+            HoldsLiteral p 0 (λ k. get_or registers.new.items k (pos 0)) }
+        ensures others { (k : ℕ) → self.now.registers ≤ k →
+            get_or registers.new.items k (pos 0) ≡ get_or registers.old.items k (pos 0) }
         ensures registers { length registers.new.items ≡ length registers.old.items }
         ensures wires { length wires.new.items ≡ length wires.old.items }
         ensures present { length present.new.items ≡ length present.old.items }
@@ -231,9 +238,20 @@ impl Codes {
         requires registers { self.now.registers ≤ length registers.old.items }
         requires wires { length wires.old.items ≡ self.now.wires }
         requires present { length present.old.items ≡ self.now.signals }
-        ensures tells { (tables : Tables) (p : Plain) (n : ℕ) (own : List ℕ) → AreCodes self.now p n own → FitRegisters tables (whole p) 0 (λ k. get_or registers.old.items k (pos 0)) → HoldsLiteral p 0 (λ k. get_or registers.old.items k (pos 0)) → TellsTick tables (whole p) n own (residual tables (whole p) 0 (λ k. get_or registers.old.items k (pos 0))) present.new.items (λ k. get_or registers.new.items k (pos 0)) result }
-        ensures literals { (tables : Tables) (p : Plain) (n : ℕ) (own : List ℕ) → AreCodes self.now p n own → FitRegisters tables (whole p) 0 (λ k. get_or registers.old.items k (pos 0)) → HoldsLiteral p 0 (λ k. get_or registers.old.items k (pos 0)) → HoldsLiteral p 0 (λ k. get_or registers.new.items k (pos 0)) }
-        ensures others { (k : ℕ) → self.now.registers ≤ k → get_or registers.new.items k (pos 0) ≡ get_or registers.old.items k (pos 0) }
+        ensures tells { (tables : Tables) (p : Plain) (n : ℕ) (own : List ℕ) →
+            AreCodes self.now p n own →
+            FitRegisters tables (whole p) 0 (λ k. get_or registers.old.items k (pos 0)) →
+            HoldsLiteral p 0 (λ k. get_or registers.old.items k (pos 0)) →
+            TellsTick tables (whole p) n own
+            (residual tables (whole p) 0 (λ k. get_or registers.old.items k (pos 0)))
+            present.new.items (λ k. get_or registers.new.items k (pos 0)) result }
+        ensures literals { (tables : Tables) (p : Plain) (n : ℕ) (own : List ℕ) →
+            AreCodes self.now p n own →
+            FitRegisters tables (whole p) 0 (λ k. get_or registers.old.items k (pos 0)) →
+            HoldsLiteral p 0 (λ k. get_or registers.old.items k (pos 0)) →
+            HoldsLiteral p 0 (λ k. get_or registers.new.items k (pos 0)) }
+        ensures others { (k : ℕ) → self.now.registers ≤ k →
+            get_or registers.new.items k (pos 0) ≡ get_or registers.old.items k (pos 0) }
         ensures registers { length registers.new.items ≡ length registers.old.items }
         ensures wires { length wires.new.items ≡ length wires.old.items }
         ensures present { length present.new.items ≡ length present.old.items }

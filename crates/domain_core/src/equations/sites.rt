@@ -49,7 +49,8 @@ fn end_number(ends: &[EndOf], channel: u32) -> u32
 fn place(ends: &[EndOf], channel: u32, register: u32) -> EndPlace
     requires ends { length ends.now < 2 ^ 32 }
     requires room { register + 1 < 2 ^ 32 }
-    ensures { result ≡ record { which = end_number ends.now channel; on = register; met = register + 1 } }
+    ensures { result ≡
+        record { which = end_number ends.now channel; on = register; met = register + 1 } }
 {
     EndPlace {
         which: end_number(ends, channel),
@@ -91,7 +92,8 @@ pub fn find(found: &mut Found, ends: &[EndOf], term: &Term, register: u32) -> Re
 fn find_all(found: &mut Found, ends: &[EndOf], list: &[Term], register: u32) -> Result<(), NoMemory>
     requires ends { length ends.now < 2 ^ 32 }
     requires room { register + registers_of (map plain list.now) < 2 ^ 32 }
-    ensures { IfOk result (λ _. FindsAll found.old found.new ends.now (map plain list.now) register) }
+    ensures { IfOk result
+        (λ _. FindsAll found.old found.new ends.now (map plain list.now) register) }
 {
     let mut next = register;
     for term in list {

@@ -54,7 +54,17 @@ impl Model for Domain {
 
     ghost use Rattle.domain_core.specs.step.JoinLists.{joins_in};
 
-    ghost view = { λ d. record { system = d.system.value; domain = d.domain; registers = d.state.registers.items; standing = d.state.standing.items; log = d.log; joins = joins_in d.state.joins.items; spare = d.log.room; stopped = d.state.stopped; stamp = d.state.stamp } };
+    ghost view = { λ d. record {
+      system = d.system.value;
+      domain = d.domain;
+      registers = d.state.registers.items;
+      standing = d.state.standing.items;
+      log = d.log;
+      joins = joins_in d.state.joins.items;
+      spare = d.log.room;
+      stopped = d.state.stopped;
+      stamp = d.state.stamp;
+    } };
 
     ghost use Rattle.domain_core.specs.step.DomainKeeps.{Keeps};
 
@@ -79,7 +89,8 @@ impl From<NoMemory> for CompileError {
 fn tables_are_limited(system: &System)
     ensures signals { length (tables_of system.now).signals ≤ most_domains * most_signals }
     ensures channels { length (tables_of system.now).channels ≤ most_channels }
-    ensures variables { (d : ℕ) → d < length (domains_of system.now) → length (variables_of (tables_of system.now) d) ≤ most_variables }
+    ensures variables { (d : ℕ) → d < length (domains_of system.now) →
+        length (variables_of (tables_of system.now) d) ≤ most_variables }
 {}
 
 #[tactic(auto, using(crate::proofs::lemmas::step::CompilableDomains::can_builds))]
@@ -143,7 +154,11 @@ impl Domain {
     /// Takes memory for at least so many ticks more.
     pub fn reserve(&mut self, ticks: u32) -> Result<(), NoMemory>
         requires { tick_count_of self.old + ticks < 2 ^ 32 }
-        ensures reserved { IfOk result (λ _. self.new ≡ record self.old { log = record self.old.log { room = max self.old.spare ticks }; spare = max self.old.spare ticks }) }
+        ensures reserved { IfOk result (λ _. self.new ≡
+            record self.old {
+              log = record self.old.log { room = max self.old.spare ticks };
+              spare = max self.old.spare ticks;
+            }) }
         ensures unchanged { IsErr result → self.new ≡ self.old }
     {
         let made = self.log.len() as usize;
@@ -202,10 +217,12 @@ impl Domain {
         requires running { self.old.stopped ≡ false }
         requires spare { 1 ≤ self.old.spare }
         requires count { E.count ends.old ≡ length (ends_in self.old) }
-        requires fits { (n : ℕ) → n < length (ends_in self.old) → FitsEnd self.old n (E.end_at ends.old n) }
+        requires fits { (n : ℕ) → n < length (ends_in self.old) →
+            FitsEnd self.old n (E.end_at ends.old n) }
         ensures step { IsStep E.moved no_inputs ends.old ends.new self.old self.new result }
         ensures count { E.count ends.new ≡ E.count ends.old }
-        ensures leaves { (n : ℕ) → n < length (ends_in self.old) → LeavesEnd self.new n (E.end_at ends.old n) (E.end_at ends.new n) }
+        ensures leaves { (n : ℕ) → n < length (ends_in self.old) →
+            LeavesEnd self.new n (E.end_at ends.old n) (E.end_at ends.new n) }
     {
         let ticks = self.log.len();
         recall_phase(

@@ -34,7 +34,15 @@ impl Ends for ScriptedEnd {
 
     ghost count = { λ e. 1 };
 
-    ghost end_at = { λ e at. record { side = sides.Receiver; kind = kind.Int; offer = cond (is_some e.offered) (Some (record { value = pos 0; stamp = unwrap_or e.offered 0 })) None; room = 2 } };
+    ghost end_at = { λ e at. record {
+      side = sides.Receiver;
+      kind = kind.Int;
+      offer = cond (is_some e.offered) (Some (record {
+        value = pos 0;
+        stamp = unwrap_or e.offered 0;
+      })) None;
+      room = 2;
+    } };
 
     ghost moved = { λ old at m answer new. new.theirs ≡ old.theirs };
 
@@ -54,7 +62,14 @@ impl Ends for ScriptedEnd {
 }
 
 fn signal(alloc: Global, name: &[u8], domain: u32) -> Result<SignalInfo, NoMemory>
-    ensures { IfOk result (λ s. s ≡ record { name = name.now; domain = domain; sort = Sort.Output; kind = None; combine = Combine.Max }) }
+    ensures { IfOk result (λ s. s ≡
+        record {
+          name = name.now;
+          domain = domain;
+          sort = Sort.Output;
+          kind = None;
+          combine = Combine.Max;
+        }) }
 {
     Ok(SignalInfo {
         name: Text::new(alloc, name)?,
@@ -100,7 +115,8 @@ fn emit(signal: u32) -> Term
 }
 
 fn both(alloc: Global, first: Term, second: Term) -> Result<Term, NoMemory>
-    ensures { (p q : Stmt) → IsTermOf p first → IsTermOf q second → IfOk result (IsTermOf (rules.Seq p q)) }
+    ensures { (p q : Stmt) → IsTermOf p first → IsTermOf q second →
+        IfOk result (IsTermOf (rules.Seq p q)) }
 {
     let parts = vec![in alloc; first, second]?;
     Ok(Term {

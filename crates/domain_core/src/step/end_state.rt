@@ -18,7 +18,8 @@ use tick_code::EndPlace;
 // Sets `met` at the place, if it is on and a join was answered at its end.
 fn meet_at(place: EndPlace, answers: &[Option<Joined>], registers: &mut Vec<i64>)
     requires { PlaceFits (length answers.now) (length registers.old.items) place }
-    ensures registers { register_at registers.new.items ≡ met_where_at (is_joined answers.now) place (register_at registers.old.items) }
+    ensures registers { register_at registers.new.items ≡
+        met_where_at (is_joined answers.now) place (register_at registers.old.items) }
     ensures len { length registers.new.items ≡ length registers.old.items }
 {
     if answers[place.which as usize].is_some() && registers[place.on as usize] != 0 {
@@ -29,7 +30,8 @@ fn meet_at(place: EndPlace, answers: &[Option<Joined>], registers: &mut Vec<i64>
 // Sets `met` at each place that is on and at whose end a join was answered.
 fn meet_all(places: &[EndPlace], answers: &[Option<Joined>], registers: &mut Vec<i64>)
     requires { PlacesFit places.now (length answers.now) (length registers.old.items) }
-    ensures registers { register_at registers.new.items ≡ met_where (is_joined answers.now) places.now (register_at registers.old.items) }
+    ensures registers { register_at registers.new.items ≡
+        met_where (is_joined answers.now) places.now (register_at registers.old.items) }
     ensures len { length registers.new.items ≡ length registers.old.items }
 {
     for place in places {
@@ -40,8 +42,12 @@ fn meet_all(places: &[EndPlace], answers: &[Option<Joined>], registers: &mut Vec
 // Writes a joined value to the register of this number, at a receiver.
 fn keep_value(end: EndOf, last: &[u32], number: usize, value: i64, registers: &mut Vec<i64>)
     requires number { end.side ≡ Receiver → number < length last.now }
-    requires register { end.side ≡ Receiver → get_or last.now number 0 < length registers.old.items }
-    ensures registers { register_at registers.new.items ≡ cond (is_receiver end.side) (put_at (register_at registers.old.items) (get_or last.now number 0) value) (register_at registers.old.items) }
+    requires register { end.side ≡ Receiver →
+        get_or last.now number 0 < length registers.old.items }
+    ensures registers { register_at registers.new.items ≡
+        cond (is_receiver end.side)
+        (put_at (register_at registers.old.items) (get_or last.now number 0) value)
+        (register_at registers.old.items) }
     ensures len { length registers.new.items ≡ length registers.old.items }
 {
     if end.side == Side::Receiver {
@@ -61,7 +67,8 @@ fn keep_at(
     requires within { at < length list.now }
     requires before { before ≡ receivers_before list.now at }
     requires last { LastFits last.now list.now (length registers.old.items) }
-    ensures registers { register_at registers.new.items ≡ kept_at list.now last.now at answer (register_at registers.old.items) }
+    ensures registers { register_at registers.new.items ≡
+        kept_at list.now last.now at answer (register_at registers.old.items) }
     ensures len { length registers.new.items ≡ length registers.old.items }
 {
     if let Some(joined) = answer {
@@ -84,7 +91,8 @@ fn count_receiver(end: EndOf, count: usize) -> usize
 fn keep_all(last: &[u32], list: &[EndOf], answers: &[Option<Joined>], registers: &mut Vec<i64>)
     requires last { LastFits last.now list.now (length registers.old.items) }
     requires answers { length answers.now ≡ length list.now }
-    ensures registers { register_at registers.new.items ≡ kept list.now last.now answers.now (length list.now) (register_at registers.old.items) }
+    ensures registers { register_at registers.new.items ≡
+        kept list.now last.now answers.now (length list.now) (register_at registers.old.items) }
     ensures len { length registers.new.items ≡ length registers.old.items }
 {
     let mut before = 0;
@@ -108,7 +116,9 @@ pub fn join_all(
     requires last { LastFits last.now list.now (length registers.old.items) }
     requires own { HaveOwnRegisters places.now last.now }
     requires answers { length answers.now ≡ length list.now }
-    ensures registers { register_at registers.new.items ≡ registers_joined places.now last.now list.now answers.now (length list.now) (register_at registers.old.items) }
+    ensures registers { register_at registers.new.items ≡
+        registers_joined places.now last.now list.now answers.now (length list.now)
+        (register_at registers.old.items) }
     ensures len { length registers.new.items ≡ length registers.old.items }
 {
     meet_all(places, answers, registers);
@@ -145,7 +155,10 @@ pub fn clear_asks(asks: &mut Vec<Option<i64>>)
 fn ask_at(place: EndPlace, list: &[EndOf], registers: &[i64], asks: &mut Vec<Option<i64>>)
     requires place { PlaceFits (length list.now) (length registers.now) place }
     requires asks { length asks.old.items ≡ length list.now }
-    ensures asks { (k : ℕ) → k < length list.now → get_or asks.new.items k None ≡ first_of (get_or asks.old.items k None) (asked_at place k (end_at list.now k).side (register_at registers.now)) }
+    ensures asks { (k : ℕ) → k < length list.now →
+        get_or asks.new.items k None ≡
+        first_of (get_or asks.old.items k None)
+        (asked_at place k (end_at list.now k).side (register_at registers.now)) }
     ensures len { length asks.new.items ≡ length asks.old.items }
 {
     let end = place.which as usize;
@@ -159,7 +172,9 @@ fn ask_at(place: EndPlace, list: &[EndOf], registers: &[i64], asks: &mut Vec<Opt
 pub fn ask_all(places: &[EndPlace], list: &[EndOf], registers: &[i64], asks: &mut Vec<Option<i64>>)
     requires places { PlacesFit places.now (length list.now) (length registers.now) }
     requires asks { length asks.old.items ≡ length list.now }
-    ensures asks { (k : ℕ) → k < length list.now → get_or asks.new.items k None ≡ ask_of places.now k (end_at list.now k).side (register_at registers.now) }
+    ensures asks { (k : ℕ) → k < length list.now →
+        get_or asks.new.items k None ≡
+        ask_of places.now k (end_at list.now k).side (register_at registers.now) }
     ensures len { length asks.new.items ≡ length list.now }
 {
     clear_asks(asks);
@@ -181,7 +196,8 @@ fn raised_by(answer: Option<Joined>, stamp: u64) -> u64
 
 /// The greatest stamp, with those of the answered joins.
 pub fn raised(answers: &[Option<Joined>], stamp: u64) -> u64
-    requires answers { (k : ℕ) → k < length answers.now → IfSome (get_or answers.now k None) StampsFit }
+    requires answers { (k : ℕ) → k < length answers.now →
+        IfSome (get_or answers.now k None) StampsFit }
     requires limit { stamp ≤ 2 ^ 62 }
     ensures value { result ≡ raised answers.now (length answers.now) stamp }
     ensures limit { result ≤ 2 ^ 62 }
@@ -203,7 +219,9 @@ fn stands_after(ask: Option<i64>, answer: Option<Joined>) -> bool
 pub fn stand_all(asks: &[Option<i64>], answers: &[Option<Joined>], standing: &mut Vec<bool>)
     requires asks { length asks.now ≡ length standing.old.items }
     requires answers { length answers.now ≡ length standing.old.items }
-    ensures standing { (k : ℕ) → k < length standing.old.items → get_or standing.new.items k false ≡ stands_after (get_or asks.now k None) (get_or answers.now k None) }
+    ensures standing { (k : ℕ) → k < length standing.old.items →
+        get_or standing.new.items k false ≡
+        stands_after (get_or asks.now k None) (get_or answers.now k None) }
     ensures len { length standing.new.items ≡ length standing.old.items }
 {
     for at in 0..standing.len() {

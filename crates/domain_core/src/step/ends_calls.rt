@@ -13,9 +13,11 @@ fn recall_one<E: Ends>(ends: &mut E, at: usize, stands: bool) -> Option<Joined>
     requires room { 1 ≤ (E.end_at ends.old at).room }
     requires stands { stands ≡ true → IsSome (E.end_at ends.old at).offer }
     requires free { stands ≡ false → IsNone (E.end_at ends.old at).offer }
-    ensures through { Through E.moved ends.old (recall_of stands at (E.end_at ends.old at).side result) ends.new }
+    ensures through { Through E.moved ends.old
+        (recall_of stands at (E.end_at ends.old at).side result) ends.new }
     ensures count { E.count ends.new ≡ E.count ends.old }
-    ensures others { (q : ℕ) → q < E.count ends.old → q ≢ at → E.end_at ends.new q ≡ E.end_at ends.old q }
+    ensures others { (q : ℕ) → q < E.count ends.old → q ≢ at →
+        E.end_at ends.new q ≡ E.end_at ends.old q }
     ensures recalled { IsRecalled stands result (E.end_at ends.old at) (E.end_at ends.new at) }
 {
     if stands { ends.recall(at) } else { None }
@@ -31,8 +33,10 @@ pub fn recall_all<E: Ends>(
     requires standing { length standing.now ≡ length list.now }
     requires answers { length answers.old.items ≡ length list.now }
     requires count { E.count ends.old ≡ length list.now }
-    requires can { (k : ℕ) → k < length list.now → CanRecall (end_at list.now k) (get_or standing.now k false) (E.end_at ends.old k) }
-    ensures recalls { RecallsAll E.moved E.count E.end_at list.now standing.now answers.new.items (length list.now) ends.old ends.new }
+    requires can { (k : ℕ) → k < length list.now →
+        CanRecall (end_at list.now k) (get_or standing.now k false) (E.end_at ends.old k) }
+    ensures recalls { RecallsAll E.moved E.count E.end_at list.now standing.now answers.new.items
+        (length list.now) ends.old ends.new }
     ensures answers { length answers.new.items ≡ length list.now }
 {
     for at in 0..list.len() {
@@ -47,9 +51,11 @@ fn offer_one<E: Ends>(ends: &mut E, at: usize, ask: Option<i64>, stamp: u64) -> 
     requires free { IsNone (E.end_at ends.old at).offer }
     requires stamp { stamp < 2 ^ 62 }
     requires value { IfSome ask (ValueFits (E.end_at ends.old at).side (E.end_at ends.old at).kind) }
-    ensures through { Through E.moved ends.old (offer_of ask at (E.end_at ends.old at).side stamp result) ends.new }
+    ensures through { Through E.moved ends.old
+        (offer_of ask at (E.end_at ends.old at).side stamp result) ends.new }
     ensures count { E.count ends.new ≡ E.count ends.old }
-    ensures others { (q : ℕ) → q < E.count ends.old → q ≢ at → E.end_at ends.new q ≡ E.end_at ends.old q }
+    ensures others { (q : ℕ) → q < E.count ends.old → q ≢ at →
+        E.end_at ends.new q ≡ E.end_at ends.old q }
     ensures offered { IsOffered ask stamp result (E.end_at ends.old at) (E.end_at ends.new at) }
 {
     match ask {
@@ -70,8 +76,10 @@ pub fn offer_all<E: Ends>(
     requires answers { length answers.old.items ≡ length list.now }
     requires count { E.count ends.old ≡ length list.now }
     requires stamp { stamp < 2 ^ 62 }
-    requires can { (k : ℕ) → k < length list.now → CanOffer (end_at list.now k) (get_or asks.now k None) (E.end_at ends.old k) }
-    ensures offers { OffersAll E.moved E.count E.end_at list.now asks.now stamp answers.new.items (length list.now) ends.old ends.new }
+    requires can { (k : ℕ) → k < length list.now →
+        CanOffer (end_at list.now k) (get_or asks.now k None) (E.end_at ends.old k) }
+    ensures offers { OffersAll E.moved E.count E.end_at list.now asks.now stamp answers.new.items
+        (length list.now) ends.old ends.new }
     ensures answers { length answers.new.items ≡ length list.now }
 {
     for at in 0..list.len() {

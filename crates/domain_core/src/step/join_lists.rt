@@ -23,11 +23,14 @@ fn push_within(list: &mut Vec<EndJoin>, join: EndJoin)
 // Adds the join, if there is one, at the end of this number.
 fn add_join(lists: &mut Vec<Vec<EndJoin>>, at: usize, answer: Option<Joined>, ticks: u32)
     requires within { at < length lists.old.items }
-    requires room { IsSome answer → (v : Vec EndJoin Global) → vec_len (get_or lists.old.items at v) < vec_capacity (get_or lists.old.items at v) }
+    requires room { IsSome answer → (v : Vec EndJoin Global) →
+        vec_len (get_or lists.old.items at v) < vec_capacity (get_or lists.old.items at v) }
     ensures joins { joins_in lists.new.items ≡ add_join ticks at answer (joins_in lists.old.items) }
     ensures len { length lists.new.items ≡ length lists.old.items }
-    ensures others { (k : ℕ) (v : Vec EndJoin Global) → k ≢ at → get_or lists.new.items k v ≡ get_or lists.old.items k v }
-    ensures capacity { (k : ℕ) (v : Vec EndJoin Global) → k < length lists.old.items → vec_capacity (get_or lists.old.items k v) ≤ vec_capacity (get_or lists.new.items k v) }
+    ensures others { (k : ℕ) (v : Vec EndJoin Global) → k ≢ at →
+        get_or lists.new.items k v ≡ get_or lists.old.items k v }
+    ensures capacity { (k : ℕ) (v : Vec EndJoin Global) → k < length lists.old.items →
+        vec_capacity (get_or lists.old.items k v) ≤ vec_capacity (get_or lists.new.items k v) }
 {
     if let Some(joined) = answer {
         let list = &mut lists[at];
@@ -39,9 +42,11 @@ fn add_join(lists: &mut Vec<Vec<EndJoin>>, at: usize, answer: Option<Joined>, ti
 pub fn add_joins(lists: &mut Vec<Vec<EndJoin>>, answers: &[Option<Joined>], ticks: u32)
     requires answers { length answers.now ≡ length lists.old.items }
     requires room { HasRoom lists.old.items answers.now 0 }
-    ensures joins { joins_in lists.new.items ≡ add_joins ticks answers.now (length lists.old.items) (joins_in lists.old.items) }
+    ensures joins { joins_in lists.new.items ≡
+        add_joins ticks answers.now (length lists.old.items) (joins_in lists.old.items) }
     ensures len { length lists.new.items ≡ length lists.old.items }
-    ensures capacity { (k : ℕ) (v : Vec EndJoin Global) → k < length lists.old.items → vec_capacity (get_or lists.old.items k v) ≤ vec_capacity (get_or lists.new.items k v) }
+    ensures capacity { (k : ℕ) (v : Vec EndJoin Global) → k < length lists.old.items →
+        vec_capacity (get_or lists.old.items k v) ≤ vec_capacity (get_or lists.new.items k v) }
 {
     for at in 0..lists.len() {
         add_join(lists, at, answers[at], ticks);
@@ -62,8 +67,10 @@ fn grow_list(list: &mut Vec<EndJoin>, room: usize) -> Result<(), NoMemory>
 pub fn grow(lists: &mut Vec<Vec<EndJoin>>, room: usize) -> Result<(), NoMemory>
     ensures joins { joins_in lists.new.items ≡ joins_in lists.old.items }
     ensures len { length lists.new.items ≡ length lists.old.items }
-    ensures capacity { (k : ℕ) (v : Vec EndJoin Global) → k < length lists.old.items → vec_capacity (get_or lists.old.items k v) ≤ vec_capacity (get_or lists.new.items k v) }
-    ensures room { IfOk result (λ _. (k : ℕ) (v : Vec EndJoin Global) → k < length lists.old.items → room ≤ vec_capacity (get_or lists.new.items k v)) }
+    ensures capacity { (k : ℕ) (v : Vec EndJoin Global) → k < length lists.old.items →
+        vec_capacity (get_or lists.old.items k v) ≤ vec_capacity (get_or lists.new.items k v) }
+    ensures room { IfOk result (λ _. (k : ℕ) (v : Vec EndJoin Global) → k < length lists.old.items →
+        room ≤ vec_capacity (get_or lists.new.items k v)) }
 {
     for at in 0..lists.len() {
         grow_list(&mut lists[at], room)?;

@@ -57,7 +57,8 @@ pub fn list_signals(
     domain: u32,
 ) -> Result<Vec<u32>, NoMemory>
     requires { length signals.now < 2 ^ 32 }
-    ensures numbers { IfOk result (λ v. v.items ≡ numbers_where (is_interface_of domain) 0 signals.now) }
+    ensures numbers { IfOk result (λ v. v.items ≡
+        numbers_where (is_interface_of domain) 0 signals.now) }
     ensures few { IfOk result (λ v. length v.items ≤ length signals.now) }
 {
     let mut numbers = Vec::new(alloc);

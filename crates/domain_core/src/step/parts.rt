@@ -66,11 +66,14 @@ fn none_answered(answers: &[Option<Joined>]) -> bool
 pub fn apply(program: &Program, state: &mut State, answers: &[Option<Joined>], ticks: u32)
     requires answers { length answers.now ≡ length program.now.ends.items }
     requires lists { length state.old.joins.items ≡ length program.now.ends.items }
-    requires places { PlacesFit program.now.codes.places.items (length program.now.ends.items) (length state.old.registers.items) }
-    requires last { LastFits program.now.last.items program.now.ends.items (length state.old.registers.items) }
+    requires places { PlacesFit program.now.codes.places.items (length program.now.ends.items)
+        (length state.old.registers.items) }
+    requires last { LastFits program.now.last.items program.now.ends.items
+        (length state.old.registers.items) }
     requires own { HaveOwnRegisters program.now.codes.places.items program.now.last.items }
     requires room { HasRoom state.old.joins.items answers.now 0 }
-    requires stamps { (k : ℕ) → k < length answers.now → IfSome (get_or answers.now k None) StampsFit }
+    requires stamps { (k : ℕ) → k < length answers.now →
+        IfSome (get_or answers.now k None) StampsFit }
     requires limit { state.old.cause ≤ 2 ^ 62 }
     ensures applies { Applies program.now state.old state.new answers.now ticks }
     ensures standing { state.new.standing.items ≡ state.old.standing.items }
@@ -101,7 +104,8 @@ pub fn tick(
     requires registers { codes.now.registers ≤ length registers.old.items }
     requires wires { length wires.old.items ≡ codes.now.wires }
     requires present { length present.old.items ≡ codes.now.signals }
-    ensures tick { MakesCodeTick codes.now ticks (register_at registers.old.items) (register_at registers.new.items) present.new.items result }
+    ensures tick { MakesCodeTick codes.now ticks (register_at registers.old.items)
+        (register_at registers.new.items) present.new.items result }
     ensures registers { length registers.new.items ≡ length registers.old.items }
     ensures wires { length wires.new.items ≡ length wires.old.items }
     ensures present { length present.new.items ≡ length present.old.items }
@@ -125,9 +129,14 @@ pub fn recall_phase<E: Ends>(
     requires parts { PartsHold program.now state.old ticks 0 }
     requires answers { length answers.old.items ≡ length program.now.ends.items }
     requires count { E.count ends.old ≡ length program.now.ends.items }
-    requires can { (k : ℕ) → k < length program.now.ends.items → CanRecall (end_at program.now.ends.items k) (get_or state.old.standing.items k false) (E.end_at ends.old k) }
-    requires stamps { (k : ℕ) → k < length program.now.ends.items → IfSome (E.end_at ends.old k).offer (λ o. o.stamp < 2 ^ 62) }
-    ensures recalls { RecallsAll E.moved E.count E.end_at program.now.ends.items state.old.standing.items answers.new.items (length program.now.ends.items) ends.old ends.new }
+    requires can { (k : ℕ) → k < length program.now.ends.items →
+        CanRecall (end_at program.now.ends.items k) (get_or state.old.standing.items k false)
+        (E.end_at ends.old k) }
+    requires stamps { (k : ℕ) → k < length program.now.ends.items →
+        IfSome (E.end_at ends.old k).offer (λ o. o.stamp < 2 ^ 62) }
+    ensures recalls { RecallsAll E.moved E.count E.end_at program.now.ends.items
+        state.old.standing.items answers.new.items (length program.now.ends.items) ends.old
+        ends.new }
     ensures answers { length answers.new.items ≡ length program.now.ends.items }
     ensures applies { Applies program.now state.old state.new answers.new.items ticks }
     ensures standing { state.new.standing.items ≡ state.old.standing.items }
@@ -138,9 +147,13 @@ pub fn recall_phase<E: Ends>(
 
 /// What each end asks after a tick. It takes no memory.
 pub fn ask(program: &Program, registers: &[i64], ended: bool, asks: &mut Vec<Option<i64>>)
-    requires places { PlacesFit program.now.codes.places.items (length program.now.ends.items) (length registers.now) }
+    requires places { PlacesFit program.now.codes.places.items (length program.now.ends.items)
+        (length registers.now) }
     requires asks { length asks.old.items ≡ length program.now.ends.items }
-    ensures asks { (k : ℕ) → k < length program.now.ends.items → get_or asks.new.items k None ≡ cond ended None (ask_of program.now.codes.places.items k (end_at program.now.ends.items k).side (register_at registers.now)) }
+    ensures asks { (k : ℕ) → k < length program.now.ends.items →
+        get_or asks.new.items k None ≡
+        cond ended None (ask_of program.now.codes.places.items k
+        (end_at program.now.ends.items k).side (register_at registers.now)) }
     ensures len { length asks.new.items ≡ length program.now.ends.items }
 {
     if ended {
@@ -163,8 +176,10 @@ pub fn offer_phase<E: Ends>(
 )
     requires standing { length state.old.standing.items ≡ length program.now.ends.items }
     requires lists { length state.old.joins.items ≡ length program.now.ends.items }
-    requires places { PlacesFit program.now.codes.places.items (length program.now.ends.items) (length state.old.registers.items) }
-    requires last { LastFits program.now.last.items program.now.ends.items (length state.old.registers.items) }
+    requires places { PlacesFit program.now.codes.places.items (length program.now.ends.items)
+        (length state.old.registers.items) }
+    requires last { LastFits program.now.last.items program.now.ends.items
+        (length state.old.registers.items) }
     requires own { HaveOwnRegisters program.now.codes.places.items program.now.last.items }
     requires room { (answers : List (Option Joined)) → HasRoom state.old.joins.items answers 0 }
     requires limit { state.old.cause ≤ 2 ^ 62 }
@@ -172,11 +187,15 @@ pub fn offer_phase<E: Ends>(
     requires asks { length asks.now ≡ length program.now.ends.items }
     requires count { E.count ends.old ≡ length program.now.ends.items }
     requires stamp { stamp < 2 ^ 62 }
-    requires can { (k : ℕ) → k < length program.now.ends.items → CanOffer (end_at program.now.ends.items k) (get_or asks.now k None) (E.end_at ends.old k) }
-    ensures offers { OffersAll E.moved E.count E.end_at program.now.ends.items asks.now stamp replies.new.items (length program.now.ends.items) ends.old ends.new }
+    requires can { (k : ℕ) → k < length program.now.ends.items →
+        CanOffer (end_at program.now.ends.items k) (get_or asks.now k None) (E.end_at ends.old k) }
+    ensures offers { OffersAll E.moved E.count E.end_at program.now.ends.items asks.now stamp
+        replies.new.items (length program.now.ends.items) ends.old ends.new }
     ensures replies { length replies.new.items ≡ length program.now.ends.items }
     ensures applies { Applies program.now state.old state.new replies.new.items ticks }
-    ensures standing { (k : ℕ) → k < length program.now.ends.items → get_or state.new.standing.items k false ≡ stands_after (get_or asks.now k None) (get_or replies.new.items k None) }
+    ensures standing { (k : ℕ) → k < length program.now.ends.items →
+        get_or state.new.standing.items k false ≡
+        stands_after (get_or asks.now k None) (get_or replies.new.items k None) }
     ensures length { length state.new.standing.items ≡ length program.now.ends.items }
 {
     offer_all(ends, &program.ends, asks, stamp, replies);

@@ -9,8 +9,9 @@ use Rattle.domain_core.specs.definitions.runs.Scheduled.{IsScheduledRun, IsWhole
 
 -- The scheduled run of the turns under these inputs: legal, at rest, and with the turns' budgets spent. It fits
 -- the system.
-pub record IsOrderRun (system : System) (inputs : Inputs) (turns : List ℕ) (r : RunState) : Type 0 where
-  pub end : SystemState
-  pub scheduled : IsScheduledRun (setup_of system inputs) r turns end
-  pub whole : IsWholeRun (setup_of system inputs) r turns
-  pub fits : FitsSystem system r
+pub record IsOrderRun (system : System) (inputs : Inputs) (turns : List ℕ) (r : RunState) : Type 0
+  where
+    pub end : SystemState
+    pub scheduled : IsScheduledRun (setup_of system inputs) r turns end
+    pub whole : IsWholeRun (setup_of system inputs) r turns
+    pub fits : FitsSystem system r

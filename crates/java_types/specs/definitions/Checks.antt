@@ -29,7 +29,8 @@ option_map2 f (Some x) o = option_map (f x) o
 abbrev pub map2 : {X Y Z : Type 0} → (X → Y → Z) → Checked X → Checked Y → Checked Z
 map2 f c d = record { value = option_map2 f c.value d.value; failures = c.failures ++ d.failures }
 
-abbrev pub map3 : {X Y Z W : Type 0} → (X → Y → Z → W) → Checked X → Checked Y → Checked Z → Checked W
+abbrev pub map3 : {X Y Z W : Type 0} → (X → Y → Z → W) → Checked X → Checked Y → Checked Z →
+    Checked W
 map3 f c d e = map2 (λ g z. g z) (map2 f c d) e
 
 -- what is asked of a value is asked where there is one

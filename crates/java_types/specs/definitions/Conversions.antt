@@ -20,15 +20,20 @@ converted k e = cond (same_kind (kind_of e) k) e (expr_of k (expr_form.Cast e))
 -- A value is given to its own kind, to one that its kind widens to, and where it is a literal to one that holds its
 -- number. Else it is wrong at its first token.
 abbrev pub given : Kind → Operand → Checked expr.Expr
-given k o = cond (is_widened (kind_of o.expr) k || is_given_to k o.spelling) (fine (converted k o.expr)) (wrong (failure.Mismatch o.first))
+given k o =
+    cond (is_widened (kind_of o.expr) k ||
+    is_given_to k o.spelling) (fine (converted k o.expr)) (wrong (failure.Mismatch o.first))
 
 -- a condition is `boolean`
 abbrev pub condition : Operand → Checked expr.Expr
-condition o = cond (same_kind (kind_of o.expr) kind.Boolean) (fine o.expr) (wrong (failure.Mismatch o.first))
+condition o =
+    cond (same_kind (kind_of o.expr) kind.Boolean) (fine o.expr) (wrong (failure.Mismatch o.first))
 
 -- `x op= e` is `x = (kind of x)(x op e)`. What is wrong with it is so at its sign, or at its divisor.
 abbrev pub cast_back : ℕ → Kind → expr.Expr → Checked expr.Expr
-cast_back at k e = cond (is_castable (kind_of e) k) (fine (expr_of k (expr_form.Cast e))) (wrong (failure.Mismatch at))
+cast_back at k e =
+    cond (is_castable (kind_of e) k) (fine (expr_of k (expr_form.Cast e)))
+    (wrong (failure.Mismatch at))
 
 abbrev pub variable_of : Kind → ℕ → expr.Expr
 variable_of k n = expr_of k (expr_form.Variable n)

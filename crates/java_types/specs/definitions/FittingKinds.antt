@@ -11,6 +11,8 @@ use Rattle.sj_names.specs.definitions.FittingTrees.{ValueRules}
 -- it has its kind by its operators and operands, that of what it is given to, and allowed divisors alone
 abbrev pub kind_rules : Tables → ValueRules Expr
 kind_rules t = record {
-  emitted = λ scope k value. is_emission t scope k (optional_expression value) && given_divisors (optional_expression value);
+  emitted =
+      λ scope k value. is_emission t scope k (optional_expression value) &&
+      given_divisors (optional_expression value);
   given = λ scope k e. is_given t scope k (expression e) && has_divisors (expression e);
 }

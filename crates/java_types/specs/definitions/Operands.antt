@@ -34,7 +34,8 @@ written at s e = record { expr = e; first = at; spelling = s }
 
 -- the value of an entry of the tables; a pure signal has none
 abbrev pub entry_expression : Tables → Entry → Option expr.Expr
-entry_expression t (entry.Signal n) = option_map (λ k. expr_of k (expr_form.Signal n)) (signal_at t n).kind
+entry_expression t (entry.Signal n) =
+    option_map (λ k. expr_of k (expr_form.Signal n)) (signal_at t n).kind
 entry_expression t (entry.Channel n) = Some (expr_of (channel_at t n).kind (expr_form.Channel n))
 entry_expression t (entry.Variable n) = Some (expr_of (variable_at t n).kind (expr_form.Variable n))
 
@@ -60,13 +61,17 @@ least_literal at v = literal at (literal_value v) (spelling.Least (literal_value
 
 abbrev pub with_kind1 : ℕ → Op1 → Operand → Option Kind → Checked Operand
 with_kind1 at op e None = wrong (failure.Mismatch at)
-with_kind1 at op e (Some k) = fine (written at (unary_spelling op e.spelling) (expr_of k (expr_form.Unary op e.expr)))
+with_kind1 at op e (Some k) =
+    fine (written at (unary_spelling op e.spelling) (expr_of k (expr_form.Unary op e.expr)))
 
 abbrev pub unary : ℕ → Op1 → Operand → Checked Operand
 unary at op e = with_kind1 at op e (result_kind1 op (kind_of e.expr))
 
 abbrev pub cast : ℕ → Kind → Operand → Checked Operand
-cast at k e = cond (is_castable (kind_of e.expr) k) (fine (written at spelling.Other (expr_of k (expr_form.Cast e.expr)))) (wrong (failure.Mismatch at))
+cast at k e =
+    cond (is_castable (kind_of e.expr) k)
+    (fine (written at spelling.Other (expr_of k (expr_form.Cast e.expr))))
+    (wrong (failure.Mismatch at))
 
 abbrev pub in_parentheses : ℕ → Operand → Operand
 in_parentheses at e = written at (grouped e.spelling) e.expr
@@ -79,11 +84,16 @@ divides _ = false
 -- an operator's divisor is looked at after its kinds
 abbrev pub with_divisor : Bool → Operand → expr.Expr → Checked expr.Expr
 with_divisor false r e = fine e
-with_divisor true r e = cond (is_divisor r.spelling) (fine e) (record { value = Some e; failures = failure.Divisor r.first ∷ [] })
+with_divisor true r e =
+    cond (is_divisor r.spelling) (fine e) (record {
+      value = Some e;
+      failures = failure.Divisor r.first ∷ [];
+    })
 
 abbrev pub with_kind2 : ℕ → Op2 → expr.Expr → Operand → Option Kind → Checked expr.Expr
 with_kind2 at op l r None = wrong (failure.Mismatch at)
-with_kind2 at op l r (Some k) = with_divisor (divides op) r (expr_of k (expr_form.Binary op l r.expr))
+with_kind2 at op l r (Some k) =
+    with_divisor (divides op) r (expr_of k (expr_form.Binary op l r.expr))
 
 abbrev pub binary : ℕ → Op2 → expr.Expr → Operand → Checked expr.Expr
 binary at op l r = with_kind2 at op l r (result_kind2 op (kind_of l) (kind_of r.expr))
@@ -92,7 +102,8 @@ abbrev pub operands : Operand → Operand → Operands
 operands l r = record { left = l; right = r }
 
 abbrev pub binary_operand : ℕ → Op2 → Operands → Checked Operand
-binary_operand at op o = then (binary at op o.left.expr o.right) (λ e. fine (written o.left.first spelling.Other e))
+binary_operand at op o =
+    then (binary at op o.left.expr o.right) (λ e. fine (written o.left.first spelling.Other e))
 
 abbrev pub checked_layer : Tables → Raw-F Entry (Checked Operand) → Checked Operand
 checked_layer t (Raw-F.Literal at v) = fine (plain_literal at v)

@@ -67,7 +67,8 @@ condition_of t e = then (checked_expression t e) condition
 -- A valued signal is emitted with a value, and a pure one without. It is wrong at the signal's name.
 abbrev pub emission : Tables → ℕ → Option Kind → Option (raw.Raw Entry) → Checked (Option expr.Expr)
 emission t at None None = fine None
-emission t at None (Some e) = record { value = None; failures = failure.Mismatch at ∷ (checked_expression t e).failures }
+emission t at None (Some e) =
+    record { value = None; failures = failure.Mismatch at ∷ (checked_expression t e).failures }
 emission t at (Some k) None = wrong (failure.Mismatch at)
 emission t at (Some k) (Some e) = map1 Some (value_for t k e)
 
@@ -79,25 +80,32 @@ update_of t n at op e = then (checked_expression t e) (updated (variable_at t n)
 
 -- statements
 
-abbrev pub form_layer : Tables → Form-F ℕ (raw.Raw Entry) (Checked TypedForm) (Checked TypedBlock) (Checked TypedStmt) → Checked TypedForm
+abbrev pub form_layer : Tables →
+    Form-F ℕ (raw.Raw Entry) (Checked TypedForm) (Checked TypedBlock) (Checked TypedStmt) →
+    Checked TypedForm
 form_layer t Form-F.Empty = fine form.Empty
 form_layer t (Form-F.Par first others) = map2 form.Par first (all_checked others)
 form_layer t Form-F.Pause = fine form.Pause
 form_layer t Form-F.Halt = fine form.Halt
 form_layer t (Form-F.Emit at s value) = map1 (form.Emit at s) (emission_of t at s value)
 form_layer t (Form-F.Sustain at s value) = map1 (form.Sustain at s) (emission_of t at s value)
-form_layer t (Form-F.Declare signal) = after (combination_failures signal.valued) (fine (form.Declare signal))
+form_layer t (Form-F.Declare signal) =
+    after (combination_failures signal.valued) (fine (form.Declare signal))
 form_layer t (Form-F.Variable k at x value) = map1 (form.Variable k at x) (value_for t k value)
-form_layer t (Form-F.Assign at x value) = map1 (form.Assign at x) (value_for t (variable_at t x).kind value)
-form_layer t (Form-F.Update at x sign_at op value) = map1 (form.Assign at x) (update_of t x sign_at op value)
-form_layer t (Form-F.If cond first other) = map3 form.If (condition_of t cond) first (where_given other)
+form_layer t (Form-F.Assign at x value) =
+    map1 (form.Assign at x) (value_for t (variable_at t x).kind value)
+form_layer t (Form-F.Update at x sign_at op value) =
+    map1 (form.Assign at x) (update_of t x sign_at op value)
+form_layer t (Form-F.If cond first other) =
+    map3 form.If (condition_of t cond) first (where_given other)
 form_layer t (Form-F.Present test first other) = map2 (form.Present test) first (where_given other)
 form_layer t (Form-F.While body) = map1 form.While body
 form_layer t (Form-F.Abort weak immediate test body) = map1 (form.Abort weak immediate test) body
 form_layer t (Form-F.Suspend immediate test body) = map1 (form.Suspend immediate test) body
 form_layer t (Form-F.Trap at name body) = map1 (form.Trap at name) body
 form_layer t (Form-F.Exit at name) = fine (form.Exit at name)
-form_layer t (Form-F.Send at c value) = map1 (form.Send at c) (value_for t (channel_at t c).kind value)
+form_layer t (Form-F.Send at c value) =
+    map1 (form.Send at c) (value_for t (channel_at t c).kind value)
 form_layer t (Form-F.Receive at c) = fine (form.Receive at c)
 form_layer t (Form-F.Await immediate test) = fine (form.Await immediate test)
 form_layer t (Form-F.Every immediate test body) = map1 (form.Every immediate test) body
@@ -109,23 +117,32 @@ block_at at ss = block.roll-Block ℕ expr.Expr (record { at = at; statements = 
 abbrev pub stmt_at : ℕ → TypedForm → TypedStmt
 stmt_at at f = stmt.roll-Stmt ℕ expr.Expr (record { at = at; form = f })
 
-abbrev pub block_layer : Block-F ℕ (raw.Raw Entry) (Checked TypedForm) (Checked TypedBlock) (Checked TypedStmt) → Checked TypedBlock
+abbrev pub block_layer : Block-F ℕ (raw.Raw Entry) (Checked TypedForm) (Checked TypedBlock)
+    (Checked TypedStmt) → Checked TypedBlock
 block_layer b = map1 (block_at b.at) (all_checked b.statements)
 
-abbrev pub stmt_layer : Stmt-F ℕ (raw.Raw Entry) (Checked TypedForm) (Checked TypedBlock) (Checked TypedStmt) → Checked TypedStmt
+abbrev pub stmt_layer : Stmt-F ℕ (raw.Raw Entry) (Checked TypedForm) (Checked TypedBlock)
+    (Checked TypedStmt) → Checked TypedStmt
 stmt_layer s = map1 (stmt_at s.at) s.form
 
 abbrev pub checked_form : Tables → form.Form ℕ (raw.Raw Entry) → Checked TypedForm
-checked_form t = fold-Form ℕ (raw.Raw Entry) (Checked TypedForm) (Checked TypedBlock) (Checked TypedStmt) (form_layer t) block_layer stmt_layer
+checked_form t =
+    fold-Form ℕ (raw.Raw Entry) (Checked TypedForm) (Checked TypedBlock) (Checked TypedStmt)
+    (form_layer t) block_layer stmt_layer
 
 abbrev pub checked_block : Tables → block.Block ℕ (raw.Raw Entry) → Checked TypedBlock
-checked_block t = fold-Block ℕ (raw.Raw Entry) (Checked TypedForm) (Checked TypedBlock) (Checked TypedStmt) (form_layer t) block_layer stmt_layer
+checked_block t =
+    fold-Block ℕ (raw.Raw Entry) (Checked TypedForm) (Checked TypedBlock) (Checked TypedStmt)
+    (form_layer t) block_layer stmt_layer
 
 abbrev pub checked_stmt : Tables → stmt.Stmt ℕ (raw.Raw Entry) → Checked TypedStmt
-checked_stmt t = fold-Stmt ℕ (raw.Raw Entry) (Checked TypedForm) (Checked TypedBlock) (Checked TypedStmt) (form_layer t) block_layer stmt_layer
+checked_stmt t =
+    fold-Stmt ℕ (raw.Raw Entry) (Checked TypedForm) (Checked TypedBlock) (Checked TypedStmt)
+    (form_layer t) block_layer stmt_layer
 
 -- a block that may be given
-abbrev pub checked_other : Tables → Option (block.Block ℕ (raw.Raw Entry)) → Checked (Option TypedBlock)
+abbrev pub checked_other : Tables → Option (block.Block ℕ (raw.Raw Entry)) →
+    Checked (Option TypedBlock)
 checked_other t None = fine None
 checked_other t (Some b) = map1 Some (checked_block t b)
 
@@ -139,4 +156,6 @@ abbrev pub with_domains : List (port.Port ℕ) → List TypedBlock → Tree ℕ 
 with_domains ports blocks = record { ports = ports; domains = blocks }
 
 abbrev pub checked_tree : Tables → Tree ℕ (raw.Raw Entry) → Checked (Tree ℕ expr.Expr)
-checked_tree t tree = after (flat_map port_failures tree.ports) (map1 (with_domains tree.ports) (all_checked (map (checked_block t) tree.domains)))
+checked_tree t tree =
+    after (flat_map port_failures tree.ports)
+    (map1 (with_domains tree.ports) (all_checked (map (checked_block t) tree.domains)))

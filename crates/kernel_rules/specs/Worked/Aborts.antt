@@ -16,19 +16,27 @@ ends_with_it m = ends_in (statuses (present ∷ [])) m
 
 -- abort(A){emit X; pause; emit X; pause; emit X;} emit Y;
 abbrev pub aborted : (weak immediate : Bool) → Stmt
-aborted weak immediate = Seq (Abort weak immediate (IsPresent 0) (Seq (emit 1) (Seq Pause (Seq (emit 1) (Seq Pause (emit 1)))))) (emit 2)
+aborted weak immediate =
+    Seq (Abort weak immediate (IsPresent 0)
+    (Seq (emit 1) (Seq Pause (Seq (emit 1) (Seq Pause (emit 1)))))) (emit 2)
 
 -- x = 1; immediate abort(A){x = 2; pause;} emit X(x);
 abbrev pub aborted_assignment : (weak : Bool) → Stmt
-aborted_assignment weak = Seq (assign 0 1) (Seq (Abort weak true (IsPresent 0) (Seq (assign 0 2) Pause)) (emit_value 1 (variable 0)))
+aborted_assignment weak =
+    Seq (assign 0 1) (Seq (Abort weak true (IsPresent 0) (Seq (assign 0 2) Pause))
+    (emit_value 1 (variable 0)))
 
 -- suspend(A){emit X; pause; emit X; pause; emit X;} emit Y;
 abbrev pub suspended : Stmt
-suspended = Seq (Suspend false (IsPresent 0) (Seq (emit 1) (Seq Pause (Seq (emit 1) (Seq Pause (emit 1)))))) (emit 2)
+suspended =
+    Seq (Suspend false (IsPresent 0) (Seq (emit 1) (Seq Pause (Seq (emit 1) (Seq Pause (emit 1))))))
+    (emit 2)
 
 -- while the test holds, nothing is assigned: suspend(A){pause; x = x + 1; emit X(x);}
 abbrev pub suspended_assignment : Stmt
-suspended_assignment = Suspend false (IsPresent 0) (Seq Pause (Seq (Assign 0 (plus (variable 0) (int 1))) (emit_value 1 (variable 0))))
+suspended_assignment =
+    Suspend false (IsPresent 0)
+    (Seq Pause (Seq (Assign 0 (plus (variable 0) (int 1))) (emit_value 1 (variable 0))))
 
 -- abort(A){send C(5); emit X;}, of which the send waits, and of which it has completed
 abbrev pub aborted_send : (weak : Bool) → Stmt → Stmt

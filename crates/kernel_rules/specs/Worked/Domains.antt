@@ -20,7 +20,9 @@ one_sum = signals_alone (summed (codes "S") ∷ [])
 
 -- int v = 1; pause; v = #S; pause; emit S(v + 4);
 abbrev pub reads_absent : Stmt
-reads_absent = Seq (assign 0 1) (Seq Pause (Seq (Assign 0 (signal_value 0)) (Seq Pause (emit_value 0 (plus (variable 0) (int 4))))))
+reads_absent =
+    Seq (assign 0 1) (Seq Pause
+    (Seq (Assign 0 (signal_value 0)) (Seq Pause (emit_value 0 (plus (variable 0) (int 4))))))
 
 abbrev pub flag : Expression
 flag = Variable kind.Boolean 1
@@ -41,7 +43,14 @@ turns_again = Seq Nothing (Loop one_turn)
 
 -- input int I, output int B
 abbrev pub number_input : List ℕ → SignalInfo
-number_input name = record { name = name; domain = 0; sort = sort.Input; kind = Some kind.Int; combine = combine.Add }
+number_input name =
+    record {
+      name = name;
+      domain = 0;
+      sort = sort.Input;
+      kind = Some kind.Int;
+      combine = combine.Add;
+    }
 
 abbrev pub input_tables : Tables
 input_tables = signals_alone (number_input (codes "I") ∷ summed (codes "B") ∷ [])
@@ -62,11 +71,14 @@ shows_input_again = Seq Nothing shows_input
 abbrev pub emits_again : Stmt
 emits_again =
     Seq (emit_value 0 (int 5))
-    (Seq Pause (Seq (emit_value 0 (int 3)) (Seq (emit_value 0 (int 1)) (Seq Pause (Seq Pause (emit_value 0 (int 2)))))))
+    (Seq Pause (Seq (emit_value 0 (int 3))
+    (Seq (emit_value 0 (int 1)) (Seq Pause (Seq Pause (emit_value 0 (int 2)))))))
 
 -- outputs A and B of the domain 0, and between them one of the domain 1
 abbrev pub shared_tables : Tables
-shared_tables = signals_alone (pure (codes "A") ∷ record (pure (codes "C")) { domain = 1 } ∷ pure (codes "B") ∷ [])
+shared_tables =
+    signals_alone (pure (codes "A") ∷ record (pure (codes "C")) { domain = 1 } ∷
+    pure (codes "B") ∷ [])
 
 -- emit A; pause; emit B;
 abbrev pub one_then_other : Stmt

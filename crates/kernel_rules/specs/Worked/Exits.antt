@@ -38,7 +38,14 @@ asked p q = Present (IsPresent 2) p q
 
 -- the tick of `leaves`, from variables that are 0
 abbrev pub left_by : ℕ → Tick
-left_by d = record { code = exit_code d; rest = Nothing; emits = emitted 0 0 ∷ []; variables = put_at all_zero 0 (pos 1) }
+left_by d =
+    record {
+      code = exit_code d;
+      rest = Nothing;
+      emits = emitted 0 0 ∷
+          [];
+      variables = put_at all_zero 0 (pos 1);
+    }
 
 -- emit C; y = 2; pause;
 abbrev pub assigns_and_pauses : Stmt

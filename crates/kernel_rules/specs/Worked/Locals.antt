@@ -14,13 +14,21 @@ use Rattle.kernel_rules.specs.Worked.Words.{variable, signal_value, plus, emit, 
 
 -- of kind `int`, with `max`
 abbrev pub greatest_local : List ℕ → SignalInfo
-greatest_local name = record { name = name; domain = 0; sort = sort.Local; kind = Some kind.Int; combine = combine.Max }
+greatest_local name =
+    record {
+      name = name;
+      domain = 0;
+      sort = sort.Local;
+      kind = Some kind.Int;
+      combine = combine.Max;
+    }
 
 -- outputs A and B, input I, and the local signals S with `+`, M with `max`, and P and Q, which are pure
 abbrev pub local_tables : Tables
 local_tables =
     signals_alone
-    (summed (codes "A") ∷ summed (codes "B") ∷ pure_input (codes "I") ∷ summed_local (codes "S") ∷ greatest_local (codes "M")
+    (summed (codes "A") ∷ summed (codes "B") ∷ pure_input (codes "I") ∷ summed_local (codes "S") ∷
+    greatest_local (codes "M")
     ∷ pure_local (codes "P") ∷ pure_local (codes "Q") ∷ [])
 
 -- a tick in which I is present
@@ -49,16 +57,20 @@ emitted_inside = Local 5 (pos 0) (Seq (Local 6 (pos 0) (Seq (emit 5) (emit 6))) 
 
 -- signal P; { emit P; {signal Q; present(Q){emit A;}else{emit B;}} }
 abbrev pub another_asked : Stmt
-another_asked = Local 5 (pos 0) (Seq (emit 5) (Local 6 (pos 0) (Present (IsPresent 6) (emit 0) (emit 1))))
+another_asked =
+    Local 5 (pos 0) (Seq (emit 5) (Local 6 (pos 0) (Present (IsPresent 6) (emit 0) (emit 1))))
 
 -- int signal S; emit B(#S); emit S(1); emit S(2);
 abbrev pub added : Stmt
-added = Local 3 (pos 0) (Seq (emit_value 1 (signal_value 3)) (Seq (emit_value 3 (int 1)) (emit_value 3 (int 2))))
+added =
+    Local 3 (pos 0) (Seq (emit_value 1 (signal_value 3))
+    (Seq (emit_value 3 (int 1)) (emit_value 3 (int 2))))
 
 -- int signal M; emit M(1); emit M(3); emit M(2); emit B(#M);
 abbrev pub greatest : Stmt
 greatest =
-    Local 4 (pos 0) (Seq (emit_value 4 (int 1)) (Seq (emit_value 4 (int 3)) (Seq (emit_value 4 (int 2)) (emit_value 1 (signal_value 4)))))
+    Local 4 (pos 0) (Seq (emit_value 4 (int 1))
+    (Seq (emit_value 4 (int 3)) (Seq (emit_value 4 (int 2)) (emit_value 1 (signal_value 4)))))
 
 -- emit B(#S); pause; emit B(#S);
 abbrev pub shown_twice : Stmt
@@ -70,7 +82,9 @@ kept = Local 3 (pos 0) (Seq (emit_value 3 (int 5)) shown_twice)
 
 -- int signal S; emit S(5); pause; emit S(3); emit B(#S); pause; emit B(#S);
 abbrev pub emitted_again : Stmt
-emitted_again = Local 3 (pos 0) (Seq (emit_value 3 (int 5)) (Seq Pause (Seq (emit_value 3 (int 3)) shown_twice)))
+emitted_again =
+    Local 3 (pos 0) (Seq (emit_value 3 (int 5))
+    (Seq Pause (Seq (emit_value 3 (int 3)) shown_twice)))
 
 -- emit S(3); pause; emit B(#S);
 abbrev pub emitted_and_shown : Stmt
@@ -95,7 +109,8 @@ assigned_inside = Seq (Local 5 (pos 0) (assign 0 1)) (emit_value 1 (variable 0))
 -- {signal P; x = 1; pause; x = x + 1;} emit B(x);
 abbrev pub assigned_twice_inside : Stmt
 assigned_twice_inside =
-    Seq (Local 5 (pos 0) (Seq (assign 0 1) (Seq Pause (Assign 0 (plus (variable 0) (int 1)))))) (emit_value 1 (variable 0))
+    Seq (Local 5 (pos 0) (Seq (assign 0 1) (Seq Pause (Assign 0 (plus (variable 0) (int 1))))))
+    (emit_value 1 (variable 0))
 
 -- signal P; present(P){emit P; emit A;}
 abbrev pub relies_on_itself : Stmt

@@ -52,7 +52,8 @@ literal k n = Literal k (pos n)
 
 -- a signal of a kind, with an operator
 abbrev pub signal_of : Kind → Combine → SignalInfo
-signal_of k c = record { name = codes "S"; domain = 0; sort = sort.Output; kind = Some k; combine = c }
+signal_of k c =
+    record { name = codes "S"; domain = 0; sort = sort.Output; kind = Some k; combine = c }
 
 -- emissions of three signals
 abbrev pub some_emissions : List Emission
@@ -61,7 +62,8 @@ some_emissions = emitted 0 5 ∷ emitted 1 6 ∷ emitted 0 4 ∷ emitted 2 3 ∷
 -- each form of expression with a kind for its own, on the variable, the signal and the channel that have values
 abbrev pub forms_of : Kind → List Expression
 forms_of k =
-    literal k 1 ∷ Variable k 1 ∷ SignalValue k 3 ∷ ChannelValue k 2 ∷ Unary k op1.Minus (Literal k (negsuc 0)) ∷ Binary k op.Add (literal k 1) (int 1)
+    literal k 1 ∷ Variable k 1 ∷ SignalValue k 3 ∷ ChannelValue k 2 ∷
+    Unary k op1.Minus (Literal k (negsuc 0)) ∷ Binary k op.Add (literal k 1) (int 1)
     ∷ Binary k op.Add (int 1) (literal k 1) ∷ Cast k (literal kind.Byte 1) ∷ []
 
 -- the greatest `int` added to each of them
@@ -74,7 +76,8 @@ on_ints k ops m n = map (λ o. Binary k o (Literal kind.Int m) (Literal kind.Int
 
 -- on two truth values
 abbrev pub on_booleans : List Op2 → ℕ → ℕ → List Expression
-on_booleans ops m n = map (λ o. Binary kind.Boolean o (literal kind.Boolean m) (literal kind.Boolean n)) ops
+on_booleans ops m n =
+    map (λ o. Binary kind.Boolean o (literal kind.Boolean m) (literal kind.Boolean n)) ops
 
 abbrev pub arithmetic : List Op2
 arithmetic = op.Mul ∷ op.Div ∷ op.Rem ∷ op.Add ∷ op.Sub ∷ op.Shl ∷ op.Shr ∷ op.Ushr ∷ []
@@ -90,4 +93,6 @@ logical = op.Both ∷ op.Either ∷ []
 
 -- a number that fits `long` alone, cast to each kind
 abbrev pub casts : List Expression
-casts = map (λ k. Cast k (literal kind.Long 8589974992)) (kind.Byte ∷ kind.Short ∷ kind.Char ∷ kind.Int ∷ kind.Long ∷ [])
+casts =
+    map (λ k. Cast k (literal kind.Long 8589974992)) (kind.Byte ∷ kind.Short ∷ kind.Char ∷
+    kind.Int ∷ kind.Long ∷ [])

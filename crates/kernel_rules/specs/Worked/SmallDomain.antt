@@ -14,10 +14,18 @@ use Rattle.kernel_rules.specs.Worked.Variables.{truth}
 
 -- a signal of a domain, with `+`
 abbrev pub of_domain : ℕ → Kind → List ℕ → SignalInfo
-of_domain d k name = record { name = name; domain = d; sort = sort.Output; kind = Some k; combine = combine.Add }
+of_domain d k name =
+    record { name = name; domain = d; sort = sort.Output; kind = Some k; combine = combine.Add }
 
 abbrev pub long_local : List ℕ → SignalInfo
-long_local name = record { name = name; domain = 0; sort = sort.Local; kind = Some kind.Long; combine = combine.Add }
+long_local name =
+    record {
+      name = name;
+      domain = 0;
+      sort = sort.Local;
+      kind = Some kind.Long;
+      combine = combine.Add;
+    }
 
 -- Signals: input A, output int I, output int O of the domain 1, output byte B, local long S, local P.
 -- Channels: C from the domain 0 to the domain 1, and D back. Variables: int x, another of the domain 1,
@@ -25,20 +33,32 @@ long_local name = record { name = name; domain = 0; sort = sort.Local; kind = So
 abbrev pub domain_tables : Tables
 domain_tables = record {
   signals =
-      pure_input (codes "A") ∷ summed (codes "I") ∷ of_domain 1 kind.Int (codes "O") ∷ of_domain 0 kind.Byte (codes "B")
+      pure_input (codes "A") ∷ summed (codes "I") ∷ of_domain 1 kind.Int (codes "O") ∷
+      of_domain 0 kind.Byte (codes "B")
       ∷ long_local (codes "S") ∷ pure_local (codes "P") ∷ [];
   channels =
       record { name = codes "C"; kind = kind.Short; sender = 0; receiver = 1 }
       ∷ record { name = codes "D"; kind = kind.Char; sender = 1; receiver = 0 } ∷ [];
-  variables = record { domain = 0; kind = kind.Int } ∷ record { domain = 1; kind = kind.Int } ∷ record { domain = 0; kind = kind.Boolean } ∷ [];
+  variables =
+      record { domain = 0; kind = kind.Int } ∷ record { domain = 1; kind = kind.Int } ∷
+      record { domain = 0; kind = kind.Boolean } ∷ [];
 }
 
 abbrev pub byte_input : List ℕ → SignalInfo
-byte_input name = record { name = name; domain = 0; sort = sort.Input; kind = Some kind.Byte; combine = combine.Add }
+byte_input name =
+    record {
+      name = name;
+      domain = 0;
+      sort = sort.Input;
+      kind = Some kind.Byte;
+      combine = combine.Add;
+    }
 
 -- Signals: local long S, input byte I, input A, output int O.
 abbrev pub input_tables : Tables
-input_tables = signals_alone (long_local (codes "S") ∷ byte_input (codes "I") ∷ pure_input (codes "A") ∷ summed (codes "O") ∷ [])
+input_tables =
+    signals_alone (long_local (codes "S") ∷ byte_input (codes "I") ∷ pure_input (codes "A") ∷
+    summed (codes "O") ∷ [])
 
 -- emit S(9);
 abbrev pub emits_local : Stmt
@@ -113,8 +133,10 @@ endless_branch_later = Seq Pause endless_branch
 -- live in each of their parts
 abbrev pub forms_left : Stmt → Stmt → List Stmt
 forms_left source p =
-    p ∷ p ∷ p ∷ p ∷ Seq p Nothing ∷ p ∷ Seq p (Loop source) ∷ Par p Nothing ∷ Par Nothing p ∷ Trap p ∷ Abort false true (IsPresent 0) p
-    ∷ Abort true true (IsPresent 0) p ∷ Suspend true (IsPresent 0) p ∷ Suspend true (IsPresent 0) p ∷ Local 0 (pos 0) p ∷ []
+    p ∷ p ∷ p ∷ p ∷ Seq p Nothing ∷ p ∷ Seq p (Loop source) ∷ Par p Nothing ∷ Par Nothing p ∷
+    Trap p ∷ Abort false true (IsPresent 0) p
+    ∷ Abort true true (IsPresent 0) p ∷ Suspend true (IsPresent 0) p ∷
+    Suspend true (IsPresent 0) p ∷ Local 0 (pos 0) p ∷ []
 
 -- each of the two pauses of `pause; pause;` is on, or the first alone
 abbrev pub both_on : ℕ → ℤ

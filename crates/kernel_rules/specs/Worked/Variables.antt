@@ -15,7 +15,8 @@ assigned_twice = Seq (assign 0 1) (Seq (emit_value 0 (variable 0)) (assign 0 2))
 abbrev pub summed_up : Stmt
 summed_up =
     Seq (assign 0 1)
-    (Seq (assign 1 2) (Seq (Assign 0 (plus (variable 0) (variable 1))) (Seq Pause (Seq (emit_value 0 (variable 0)) (emit_value 1 (variable 1))))))
+    (Seq (assign 1 2) (Seq (Assign 0 (plus (variable 0) (variable 1)))
+    (Seq Pause (Seq (emit_value 0 (variable 0)) (emit_value 1 (variable 1))))))
 
 -- emit A; pause; emit B; pause;
 abbrev pub two_pauses : Stmt
@@ -38,7 +39,9 @@ asked_of_variable p q = If (Variable kind.Boolean 0) p q
 
 -- x = true; if(x){x = false; pause; emit A;}else{emit B;}
 abbrev pub made_false : Stmt
-made_false = Seq (Assign 0 (truth true)) (asked_of_variable (Seq (Assign 0 (truth false)) (Seq Pause (emit 0))) (emit 1))
+made_false =
+    Seq (Assign 0 (truth true))
+    (asked_of_variable (Seq (Assign 0 (truth false)) (Seq Pause (emit 0))) (emit 1))
 
 -- if(x){emit A;}else{x = true; pause; emit B;}
 abbrev pub made_true : Stmt
@@ -50,7 +53,9 @@ asked_for_absence = Present (IsPresent 2) (emit 1) (Seq (emit 0) (Seq Pause (emi
 
 -- while(true){x = x + 1; emit A(x); pause; emit B(x);}
 abbrev pub counted : Stmt
-counted = Loop (Seq (Assign 0 (plus (variable 0) (int 1))) (Seq (emit_value 0 (variable 0)) (Seq Pause (emit_value 1 (variable 0)))))
+counted =
+    Loop (Seq (Assign 0 (plus (variable 0) (int 1)))
+    (Seq (emit_value 0 (variable 0)) (Seq Pause (emit_value 1 (variable 0)))))
 
 -- p emit B(x);
 abbrev pub then_shown : Stmt → Stmt
@@ -74,14 +79,18 @@ may_assign = If (Literal kind.Boolean (pos 0)) (assign 0 1) Nothing
 -- the forms that have parts, with a statement as each of their parts
 abbrev pub forms_around : Stmt → List Stmt
 forms_around p =
-    If (truth true) p Nothing ∷ If (truth true) Nothing p ∷ Present (IsPresent 0) p Nothing ∷ Present (IsPresent 0) Nothing p
-    ∷ Seq p Nothing ∷ Seq Nothing p ∷ Loop p ∷ Par p Nothing ∷ Par Nothing p ∷ Trap p ∷ Abort false false (IsPresent 0) p
-    ∷ Abort true true (IsPresent 0) p ∷ Suspend false (IsPresent 0) p ∷ Suspend true (IsPresent 0) p ∷ Local 0 (pos 0) p ∷ []
+    If (truth true) p Nothing ∷ If (truth true) Nothing p ∷ Present (IsPresent 0) p Nothing ∷
+    Present (IsPresent 0) Nothing p
+    ∷ Seq p Nothing ∷ Seq Nothing p ∷ Loop p ∷ Par p Nothing ∷ Par Nothing p ∷ Trap p ∷
+    Abort false false (IsPresent 0) p
+    ∷ Abort true true (IsPresent 0) p ∷ Suspend false (IsPresent 0) p ∷
+    Suspend true (IsPresent 0) p ∷ Local 0 (pos 0) p ∷ []
 
 -- the forms without parts, but for an assignment
 abbrev pub forms_alone : List Stmt
 forms_alone =
-    Nothing ∷ Pause ∷ Emit 0 None ∷ Exit 0 ∷ Send 0 (variable 0) ∷ Receive 0 ∷ SendWaits 0 (pos 0) ∷ Sent 0 ∷ ReceiveWaits 0 ∷ Received 0 ∷ []
+    Nothing ∷ Pause ∷ Emit 0 None ∷ Exit 0 ∷ Send 0 (variable 0) ∷ Receive 0 ∷ SendWaits 0 (pos 0) ∷
+    Sent 0 ∷ ReceiveWaits 0 ∷ Received 0 ∷ []
 
 abbrev pub numbers : List ℕ
 numbers = 0 ∷ 1 ∷ 2 ∷ 3 ∷ 4 ∷ 5 ∷ []
@@ -106,12 +115,14 @@ tested =
 
 -- sends and receives on the channels 0 to 3 that wait or have completed
 abbrev pub waits : Stmt
-waits = Seq (SendWaits 0 (pos 5)) (Seq (Sent 1) (Seq (ReceiveWaits 2) (Seq (Received 3) (Receive 3))))
+waits =
+    Seq (SendWaits 0 (pos 5)) (Seq (Sent 1) (Seq (ReceiveWaits 2) (Seq (Received 3) (Receive 3))))
 
 -- trap(T){ {x = 1; p} || {y = 2; q} } emit A(x); emit B(y);
 abbrev pub assigns_beside : Stmt → Stmt → Stmt
 assigns_beside p q =
-    Seq (Trap (Par (Seq (assign 0 1) p) (Seq (assign 1 2) q))) (Seq (emit_value 0 (variable 0)) (emit_value 1 (variable 1)))
+    Seq (Trap (Par (Seq (assign 0 1) p) (Seq (assign 1 2) q)))
+    (Seq (emit_value 0 (variable 0)) (emit_value 1 (variable 1)))
 
 -- trap(T){ {x = 1; p} || {x = 2; q} } emit B(x);
 abbrev pub both_assign : Stmt → Stmt → Stmt
@@ -123,7 +134,8 @@ second_assigns p q = then_shown (Trap (Par (Seq may_assign p) (Seq (assign 0 2) 
 
 -- an expression, and the forms that have it as one of their operands
 abbrev pub expressions_around : Expression → List Expression
-expressions_around e = e ∷ Unary kind.Int op1.Minus e ∷ plus e (int 4) ∷ plus (int 4) e ∷ Cast kind.Int e ∷ []
+expressions_around e =
+    e ∷ Unary kind.Int op1.Minus e ∷ plus e (int 4) ∷ plus (int 4) e ∷ Cast kind.Int e ∷ []
 
 -- each form that has an expression, with this one
 abbrev pub forms_with : Expression → List Stmt
@@ -131,17 +143,21 @@ forms_with e = emit_value 1 e ∷ Assign 1 e ∷ If e Nothing Nothing ∷ Send 1
 
 -- each form that has a test, with this one
 abbrev pub forms_testing : Test → List Stmt
-forms_testing t = Present t Nothing Nothing ∷ Abort false false t Nothing ∷ Abort true true t Nothing ∷ Suspend false t Nothing ∷ []
+forms_testing t =
+    Present t Nothing Nothing ∷ Abort false false t Nothing ∷ Abort true true t Nothing ∷
+    Suspend false t Nothing ∷ []
 
 -- each form of test, of the signal 3
 abbrev pub tests_of_three : List Test
 tests_of_three =
-    IsPresent 3 ∷ Not (IsPresent 3) ∷ Both (IsPresent 3) (IsPresent 4) ∷ Both (IsPresent 4) (IsPresent 3) ∷ Either (IsPresent 3) (IsPresent 4)
+    IsPresent 3 ∷ Not (IsPresent 3) ∷ Both (IsPresent 3) (IsPresent 4) ∷
+    Both (IsPresent 4) (IsPresent 3) ∷ Either (IsPresent 3) (IsPresent 4)
     ∷ Either (IsPresent 4) (IsPresent 3) ∷ []
 
 -- each form that names a channel outside of an expression, with the channel 3
 abbrev pub forms_on_channel : List Stmt
-forms_on_channel = Send 3 (int 4) ∷ Receive 3 ∷ SendWaits 3 (pos 4) ∷ Sent 3 ∷ ReceiveWaits 3 ∷ Received 3 ∷ []
+forms_on_channel =
+    Send 3 (int 4) ∷ Receive 3 ∷ SendWaits 3 (pos 4) ∷ Sent 3 ∷ ReceiveWaits 3 ∷ Received 3 ∷ []
 
 -- each form that names a signal outside of an expression and of a test, with the signal 3
 abbrev pub forms_on_signal : List Stmt

@@ -22,7 +22,8 @@ statement_registers tables Pause = kind.Boolean ∷ []
 statement_registers tables (Emit s e) = []
 statement_registers tables (Assign x e) = []
 statement_registers tables (If e p q) = statement_registers tables p ++ statement_registers tables q
-statement_registers tables (Present t p q) = statement_registers tables p ++ statement_registers tables q
+statement_registers tables (Present t p q) =
+    statement_registers tables p ++ statement_registers tables q
 statement_registers tables (Seq p q) = statement_registers tables p ++ statement_registers tables q
 statement_registers tables (Loop p) = statement_registers tables p
 statement_registers tables (Par p q) = statement_registers tables p ++ statement_registers tables q
@@ -30,8 +31,10 @@ statement_registers tables (Trap p) = statement_registers tables p
 statement_registers tables (Exit d) = []
 statement_registers tables (Abort weak armed t p) = statement_registers tables p
 statement_registers tables (Suspend armed t p) = statement_registers tables p
-statement_registers tables (Local s v p) = value_kinds (signal_at tables s).kind ++ statement_registers tables p
-statement_registers tables (Send c e) = kind.Boolean ∷ kind.Boolean ∷ (channel_at tables c).kind ∷ []
+statement_registers tables (Local s v p) =
+    value_kinds (signal_at tables s).kind ++ statement_registers tables p
+statement_registers tables (Send c e) =
+    kind.Boolean ∷ kind.Boolean ∷ (channel_at tables c).kind ∷ []
 statement_registers tables (Receive c) = kind.Boolean ∷ kind.Boolean ∷ []
 statement_registers tables (SendWaits c v) = []
 statement_registers tables (Sent c) = []
@@ -111,19 +114,25 @@ residual tables Nothing n r = Nothing
 residual tables Pause n r = Nothing
 residual tables (Emit s e) n r = Nothing
 residual tables (Assign x e) n r = Nothing
-residual tables (If e p q) n r = cond (live tables p n r) (residual tables p n r) (residual tables q (n + registers tables p) r)
-residual tables (Present t p q) n r = cond (live tables p n r) (residual tables p n r) (residual tables q (n + registers tables p) r)
-residual tables (Seq p q) n r = cond (live tables p n r) (Seq (residual tables p n r) q) (residual tables q (n + registers tables p) r)
+residual tables (If e p q) n r =
+    cond (live tables p n r) (residual tables p n r) (residual tables q (n + registers tables p) r)
+residual tables (Present t p q) n r =
+    cond (live tables p n r) (residual tables p n r) (residual tables q (n + registers tables p) r)
+residual tables (Seq p q) n r =
+    cond (live tables p n r) (Seq (residual tables p n r) q)
+    (residual tables q (n + registers tables p) r)
 residual tables (Loop p) n r = Seq (residual tables p n r) (Loop p)
 residual tables (Par p q) n r =
     Par (cond (live tables p n r) (residual tables p n r) Nothing)
-    (cond (live tables q (n + registers tables p) r) (residual tables q (n + registers tables p) r) Nothing)
+    (cond (live tables q (n + registers tables p) r) (residual tables q (n + registers tables p) r)
+    Nothing)
 residual tables (Trap p) n r = Trap (residual tables p n r)
 residual tables (Exit d) n r = Nothing
 residual tables (Abort weak armed t p) n r = Abort weak true t (residual tables p n r)
 residual tables (Suspend armed t p) n r = Suspend true t (residual tables p n r)
 residual tables (Local s v p) n r =
-    Local s (last_value (signal_at tables s).kind n r) (residual tables p (n + length (value_kinds (signal_at tables s).kind)) r)
+    Local s (last_value (signal_at tables s).kind n r)
+    (residual tables p (n + length (value_kinds (signal_at tables s).kind)) r)
 residual tables (Send c e) n r = cond (is_true (r (n + 1))) (Sent c) (SendWaits c (r (n + 2)))
 residual tables (Receive c) n r = cond (is_true (r (n + 1))) (Received c) (ReceiveWaits c)
 residual tables (SendWaits c v) n r = Nothing
@@ -147,20 +156,25 @@ LivesApart tables Pause n r = Unit {0}
 LivesApart tables (Emit s e) n r = Unit {0}
 LivesApart tables (Assign x e) n r = Unit {0}
 LivesApart tables (If e p q) n r =
-    AtMostOne (live tables p n r) (live tables q (n + registers tables p) r) × LivesApart tables p n r × LivesApart tables q (n + registers tables p) r
+    AtMostOne (live tables p n r) (live tables q (n + registers tables p) r) ×
+    LivesApart tables p n r × LivesApart tables q (n + registers tables p) r
 LivesApart tables (Present t p q) n r =
-    AtMostOne (live tables p n r) (live tables q (n + registers tables p) r) × LivesApart tables p n r × LivesApart tables q (n + registers tables p) r
+    AtMostOne (live tables p n r) (live tables q (n + registers tables p) r) ×
+    LivesApart tables p n r × LivesApart tables q (n + registers tables p) r
 LivesApart tables (Seq p q) n r =
-    AtMostOne (live tables p n r) (live tables q (n + registers tables p) r) × LivesApart tables p n r × LivesApart tables q (n + registers tables p) r
+    AtMostOne (live tables p n r) (live tables q (n + registers tables p) r) ×
+    LivesApart tables p n r × LivesApart tables q (n + registers tables p) r
 LivesApart tables (Loop p) n r = LivesApart tables p n r
 LivesApart tables (Par p q) n r =
-    (live tables (Par p q) n r ≡ true → OverOrLive (live tables p n r) p × OverOrLive (live tables q (n + registers tables p) r) q)
+    (live tables (Par p q) n r ≡ true →
+    OverOrLive (live tables p n r) p × OverOrLive (live tables q (n + registers tables p) r) q)
     × LivesApart tables p n r × LivesApart tables q (n + registers tables p) r
 LivesApart tables (Trap p) n r = LivesApart tables p n r
 LivesApart tables (Exit d) n r = Unit {0}
 LivesApart tables (Abort weak armed t p) n r = LivesApart tables p n r
 LivesApart tables (Suspend armed t p) n r = LivesApart tables p n r
-LivesApart tables (Local s v p) n r = LivesApart tables p (n + length (value_kinds (signal_at tables s).kind)) r
+LivesApart tables (Local s v p) n r =
+    LivesApart tables p (n + length (value_kinds (signal_at tables s).kind)) r
 LivesApart tables (Send c e) n r = Unit {0}
 LivesApart tables (Receive c) n r = Unit {0}
 LivesApart tables (SendWaits c v) n r = Unit {0}

@@ -62,7 +62,8 @@ ends_with m x = record { code = ended_code; rest = Nothing; emits = m; variables
 
 -- the tick of a part, of which the whole has this code and leaves this where it pauses
 abbrev pub as_whole : ℕ → Stmt → Tick → Tick
-as_whole code rest a = record { code = code; rest = left_at code rest; emits = a.emits; variables = a.variables }
+as_whole code rest a =
+    record { code = code; rest = left_at code rest; emits = a.emits; variables = a.variables }
 
 -- the statement may assign the variable
 abbrev pub writes : Stmt → ℕ → Bool
@@ -101,7 +102,8 @@ tick_of_both p a b = record {
 
 -- the second part of a sequence ticks where the first has ended, from the first one's variables
 abbrev pub Continues : ((ℕ → ℤ) → Tick → Type 0) → Stmt → Tick → Bool → Tick → Type 0
-Continues second q a true o = (b : Tick) × second a.variables b × (o ≡ record b { emits = a.emits ++ b.emits })
+Continues second q a true o =
+    (b : Tick) × second a.variables b × (o ≡ record b { emits = a.emits ++ b.emits })
 Continues second q a false o = o ≡ as_whole a.code (Seq a.rest q) a
 
 abbrev pub Chosen : Bool → Type 0 → Type 0 → Type 0
@@ -124,19 +126,27 @@ abbrev pub Ticks : Tables → (ℕ → ℤ) → Stmt → Env → (ℕ → ℤ) �
 Ticks tables last Nothing env x o = o ≡ ends_with [] x
 Ticks tables last Pause env x o = o ≡ quiet paused_code Nothing x
 Ticks tables last (Emit s e) env x o =
-    (v : ℤ) × IsEmitted (record { variables = x; env = env; last = last }) e v × (o ≡ ends_with (record { signal = s; value = v } ∷ []) x)
+    (v : ℤ) × IsEmitted (record { variables = x; env = env; last = last }) e v ×
+    (o ≡ ends_with (record { signal = s; value = v } ∷ []) x)
 Ticks tables last (Assign y e) env x o =
-    (v : ℤ) × GivesValue (record { variables = x; env = env; last = last }) e v × (o ≡ ends_with [] (put_at x y v))
+    (v : ℤ) × GivesValue (record { variables = x; env = env; last = last }) e v ×
+    (o ≡ ends_with [] (put_at x y v))
 Ticks tables last (If e p q) env x o =
-    (v : ℤ) × GivesValue (record { variables = x; env = env; last = last }) e v × Chosen (is_true v) (Ticks tables last p env x o) (Ticks tables last q env x o)
-Ticks tables last (Present t p q) env x o = Chosen (holds env t) (Ticks tables last p env x o) (Ticks tables last q env x o)
+    (v : ℤ) × GivesValue (record { variables = x; env = env; last = last }) e v ×
+    Chosen (is_true v) (Ticks tables last p env x o) (Ticks tables last q env x o)
+Ticks tables last (Present t p q) env x o =
+    Chosen (holds env t) (Ticks tables last p env x o) (Ticks tables last q env x o)
 Ticks tables last (Seq p q) env x o =
-    (a : Tick) × Ticks tables last p env x a × Continues (λ y b. Ticks tables last q env y b) q a (has_ended a.code) o
+    (a : Tick) × Ticks tables last p env x a ×
+    Continues (λ y b. Ticks tables last q env y b) q a (has_ended a.code) o
 Ticks tables last (Loop p) env x o =
-    (a : Tick) × Ticks tables last p env x a × (has_ended a.code ≡ false) × (o ≡ as_whole a.code (Seq a.rest (Loop p)) a)
+    (a : Tick) × Ticks tables last p env x a × (has_ended a.code ≡ false) ×
+    (o ≡ as_whole a.code (Seq a.rest (Loop p)) a)
 Ticks tables last (Par p q) env x o =
-    (a : Tick) × (b : Tick) × Ticks tables last p env x a × Ticks tables last q env x b × (o ≡ tick_of_both p a b)
-Ticks tables last (Trap p) env x o = (a : Tick) × Ticks tables last p env x a × (o ≡ as_whole (code_of_trap a.code) (Trap a.rest) a)
+    (a : Tick) × (b : Tick) × Ticks tables last p env x a × Ticks tables last q env x b ×
+    (o ≡ tick_of_both p a b)
+Ticks tables last (Trap p) env x o =
+    (a : Tick) × Ticks tables last p env x a × (o ≡ as_whole (code_of_trap a.code) (Trap a.rest) a)
 Ticks tables last (Exit d) env x o = o ≡ quiet (exit_code d) Nothing x
 Ticks tables last (Abort weak armed t p) env x o =
     Chosen (armed && holds env t)
@@ -147,11 +157,18 @@ Ticks tables last (Suspend armed t p) env x o =
     (o ≡ quiet paused_code (Suspend armed t p) x)
     ((a : Tick) × Ticks tables last p env x a × (o ≡ as_whole a.code (Suspend true t a.rest) a))
 Ticks tables last (Local s v p) env x o =
-    (b : Bool) × (w : ℤ) × (a : Tick) × Ticks tables last p (put_at env s (record { present = b; value = w })) x a
+    (b : Bool) × (w : ℤ) × (a : Tick) ×
+    Ticks tables last p (put_at env s (record { present = b; value = w })) x a
     × (b ≡ is_emitted a.emits s) × (w ≡ folded (signal_at tables s) v (values_of s a.emits))
-    × (o ≡ record { code = a.code; rest = left_at a.code (Local s w a.rest); emits = without s a.emits; variables = a.variables })
+    × (o ≡ record {
+      code = a.code;
+      rest = left_at a.code (Local s w a.rest);
+      emits = without s a.emits;
+      variables = a.variables;
+    })
 Ticks tables last (Send c e) env x o =
-    (v : ℤ) × GivesValue (record { variables = x; env = env; last = last }) e v × (o ≡ quiet paused_code (SendWaits c v) x)
+    (v : ℤ) × GivesValue (record { variables = x; env = env; last = last }) e v ×
+    (o ≡ quiet paused_code (SendWaits c v) x)
 Ticks tables last (Receive c) env x o = o ≡ quiet paused_code (ReceiveWaits c) x
 Ticks tables last (SendWaits c v) env x o = o ≡ quiet paused_code (SendWaits c v) x
 Ticks tables last (Sent c) env x o = o ≡ ends_with [] x

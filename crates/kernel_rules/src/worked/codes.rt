@@ -59,7 +59,8 @@ pub fn outer_exit_is_lowered()
 /// abort as it is, and leaves nothing.
 pub fn exit_passes_through()
     ensures sequence { Shows no_tables (Seq (Exit 2) (emit 0)) (exits 2 [] ∷ ends [] ∷ []) }
-    ensures of_second { Shows no_tables (Seq (emit 0) (Exit 2)) (exits 2 (emitted 0 0 ∷ []) ∷ ends [] ∷ []) }
+    ensures of_second { Shows no_tables (Seq (emit 0) (Exit 2)) (exits 2 (emitted 0 0 ∷ []) ∷
+        ends [] ∷ []) }
     ensures loop_ { Shows no_tables (exit_from_loop 1) (exits 1 (emitted 0 0 ∷ []) ∷ ends [] ∷ []) }
     ensures suspend { Shows no_tables (in_suspend (Exit 1)) (exits 1 [] ∷ ends [] ∷ []) }
     ensures weak { Shows no_tables (in_weak_abort (Exit 1)) (exits 1 [] ∷ ends [] ∷ []) }
@@ -70,13 +71,18 @@ pub fn exit_passes_through()
 
 /// An exit in a later tick passes in the same way, and through a trap it counts one depth less.
 pub fn later_exit_passes_through()
-    ensures sequence { Shows no_tables (Seq (exit_later 2) (emit 0)) (pauses [] ∷ exits 2 [] ∷ ends [] ∷ []) }
+    ensures sequence { Shows no_tables (Seq (exit_later 2) (emit 0)) (pauses [] ∷ exits 2 [] ∷
+        ends [] ∷ []) }
     ensures loop_ { Shows no_tables (Loop (exit_later 1)) (pauses [] ∷ exits 1 [] ∷ ends [] ∷ []) }
-    ensures parallel { Shows no_tables (Par (exit_later 1) (Seq Pause Pause)) (pauses [] ∷ exits 1 [] ∷ ends [] ∷ []) }
+    ensures parallel { Shows no_tables (Par (exit_later 1) (Seq Pause Pause)) (pauses [] ∷
+        exits 1 [] ∷ ends [] ∷ []) }
     ensures trap { Shows no_tables (Trap (exit_later 1)) (pauses [] ∷ exits 0 [] ∷ ends [] ∷ []) }
-    ensures suspend { Shows no_tables (in_suspend (exit_later 1)) (pauses [] ∷ exits 1 [] ∷ ends [] ∷ []) }
-    ensures weak { Shows no_tables (in_weak_abort (exit_later 1)) (pauses [] ∷ exits 1 [] ∷ ends [] ∷ []) }
-    ensures strong { Shows no_tables (in_strong_abort (exit_later 1)) (pauses [] ∷ exits 1 [] ∷ ends [] ∷ []) }
+    ensures suspend { Shows no_tables (in_suspend (exit_later 1)) (pauses [] ∷ exits 1 [] ∷
+        ends [] ∷ []) }
+    ensures weak { Shows no_tables (in_weak_abort (exit_later 1)) (pauses [] ∷ exits 1 [] ∷
+        ends [] ∷ []) }
+    ensures strong { Shows no_tables (in_strong_abort (exit_later 1)) (pauses [] ∷ exits 1 [] ∷
+        ends [] ∷ []) }
     ensures weak_aborted { Shows no_tables (in_weak_abort (exit_later 1))
         (pauses [] ∷ exits_in (statuses (absent ∷ absent ∷ present ∷ [])) 1 [] ∷ ends [] ∷ []) }
     ensures strong_aborted { Shows no_tables (in_strong_abort (exit_later 1))

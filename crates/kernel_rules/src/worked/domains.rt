@@ -29,7 +29,8 @@ pub fn absent_output_keeps_its_value()
 /// one that was handed in before.
 pub fn absent_input_keeps_its_value()
     ensures { OnlyLogs input_tables seven_at_two shows_input
-        ((off ∷ with 0 ∷ []) ∷ (with 7 ∷ with 7 ∷ []) ∷ (off ∷ with 7 ∷ []) ∷ []) shows_input_again Going }
+        ((off ∷ with 0 ∷ []) ∷ (with 7 ∷ with 7 ∷ []) ∷ (off ∷ with 7 ∷ []) ∷
+        []) shows_input_again Going }
 {}
 
 /// An output's value combines the emissions of the tick, without the last value.
@@ -83,7 +84,8 @@ pub fn legal_tick_counts()
         (row : List (Option ℤ)) (new : DomainState) → IsLegalTick tables inputs d old row new
         → new.last ≡ old.last }
     ensures values { (tables : Tables) (inputs : Inputs) (d : ℕ) (old : DomainState)
-        (row : List (Option ℤ)) (new : DomainState) (s : ℕ) → IsLegalTick tables inputs d old row new
+        (row : List (Option ℤ)) (new : DomainState) (s : ℕ) →
+        IsLegalTick tables inputs d old row new
         → is_interface_of d (signal_at tables s) ≡ false → new.values s ≡ old.values s }
 {}
 

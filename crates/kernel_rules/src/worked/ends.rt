@@ -39,7 +39,8 @@ pub fn completed_ends_go_on()
     ensures received { (tables : Tables) (last : ℕ → ℤ) (c : ℕ) (env : Env) (x : ℕ → ℤ)
         → OnlyTick tables last (Received c) env x (ends_with [] x) }
     ensures after_sent { Shows no_tables (Seq (Sent 0) (emit 0)) (ends (emitted 0 0 ∷ []) ∷ []) }
-    ensures after_received { Shows no_tables (Seq (Received 0) (emit 0)) (ends (emitted 0 0 ∷ []) ∷ []) }
+    ensures after_received { Shows no_tables (Seq (Received 0) (emit 0)) (ends (emitted 0 0 ∷
+        []) ∷ []) }
     ensures after_waiting { Shows no_tables (Seq (SendWaits 0 (pos 5)) (emit 0))
         (pauses [] ∷ pauses [] ∷ []) }
 {}

@@ -15,7 +15,8 @@ ghost use Rattle.kernel_rules.specs.definitions.TickRule.{Tick, Ticks, ends_with
 /// A local signal is present in the whole tick in which it is emitted, wherever in its body that is, and
 /// in no other tick.
 pub fn local_is_present_where_emitted()
-    ensures emitted_first { Shows local_tables emitted_beside (ends (emitted 0 0 ∷ []) ∷ ends [] ∷ []) }
+    ensures emitted_first { Shows local_tables emitted_beside (ends (emitted 0 0 ∷ []) ∷
+        ends [] ∷ []) }
     ensures asked_first { Shows local_tables asked_beside (ends (emitted 0 0 ∷ []) ∷ ends [] ∷ []) }
     ensures later { Shows local_tables emitted_later (pauses (emitted 1 0 ∷ []) ∷ ends [] ∷ []) }
 {}
@@ -37,7 +38,8 @@ pub fn local_combines_emissions()
 /// A local signal that is absent keeps its last value, and one that is emitted once has the value of
 /// that emission alone.
 pub fn local_keeps_its_last_value()
-    ensures kept { Shows local_tables kept (pauses (emitted 1 5 ∷ []) ∷ ends (emitted 1 5 ∷ []) ∷ []) }
+    ensures kept { Shows local_tables kept (pauses (emitted 1 5 ∷ []) ∷
+        ends (emitted 1 5 ∷ []) ∷ []) }
     ensures again { Shows local_tables emitted_again
         (pauses [] ∷ pauses (emitted 1 3 ∷ []) ∷ ends (emitted 1 3 ∷ []) ∷ []) }
 {}

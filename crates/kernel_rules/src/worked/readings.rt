@@ -32,8 +32,10 @@ pub fn expressions_have_values()
     ensures channel { value_of readings (channel_value 2) ≡ pos 900 }
     ensures other_channel { value_of readings (channel_value 1) ≡ pos 0 }
     ensures minus { value_of readings (Unary kind.Int op1.Minus (variable 1)) ≡ negsuc 6 }
-    ensures inverse { value_of readings (Unary kind.Boolean op1.Not (literal kind.Boolean 1)) ≡ pos 0 }
-    ensures difference { value_of readings (Binary kind.Int op2.Sub (variable 1) (int 10)) ≡ negsuc 2 }
+    ensures inverse { value_of readings (Unary kind.Boolean op1.Not (literal kind.Boolean 1)) ≡ pos
+        0 }
+    ensures difference { value_of readings (Binary kind.Int op2.Sub (variable 1) (int 10)) ≡
+        negsuc 2 }
     ensures cast { value_of readings (Cast kind.Byte (int 300)) ≡ pos 44 }
 {}
 
@@ -42,11 +44,14 @@ pub fn operands_have_kinds()
     ensures bytes { value_of readings
         (Binary kind.Int op2.Add (literal kind.Byte 100) (literal kind.Byte 100)) ≡ pos 200 }
     ensures ints { value_of readings
-        (Binary kind.Int op2.Add (literal kind.Int 2147483647) (literal kind.Int 1)) ≡ negsuc 2147483647 }
+        (Binary kind.Int op2.Add (literal kind.Int 2147483647) (literal kind.Int 1)) ≡
+        negsuc 2147483647 }
     ensures first_long { value_of readings
-        (Binary kind.Long op2.Add (literal kind.Long 2147483647) (literal kind.Int 1)) ≡ pos 2147483648 }
+        (Binary kind.Long op2.Add (literal kind.Long 2147483647) (literal kind.Int 1)) ≡
+        pos 2147483648 }
     ensures second_long { value_of readings
-        (Binary kind.Long op2.Add (literal kind.Int 2147483647) (literal kind.Long 1)) ≡ pos 2147483648 }
+        (Binary kind.Long op2.Add (literal kind.Int 2147483647) (literal kind.Long 1)) ≡
+        pos 2147483648 }
     ensures minus_int { value_of readings
         (Unary kind.Int op1.Minus (Literal kind.Int (negsuc 2147483647))) ≡ negsuc 2147483647 }
     ensures minus_long { value_of readings
@@ -65,14 +70,18 @@ pub fn operands_have_kinds()
 
 /// Each operator and each cast has its value.
 pub fn operators_have_their_values()
-    ensures numbers { map (λ e. value_of readings e) (on_ints kind.Int arithmetic (negsuc 6) (pos 2))
+    ensures numbers { map (λ e. value_of readings e)
+        (on_ints kind.Int arithmetic (negsuc 6) (pos 2))
         ≡ negsuc 13 ∷ negsuc 2 ∷ negsuc 0 ∷ negsuc 4 ∷ negsuc 8 ∷ negsuc 27 ∷ negsuc 1
         ∷ pos 1073741822 ∷ [] }
-    ensures less { map (λ e. value_of readings e) (on_ints kind.Boolean comparisons (negsuc 6) (pos 2))
+    ensures less { map (λ e. value_of readings e)
+        (on_ints kind.Boolean comparisons (negsuc 6) (pos 2))
         ≡ pos 1 ∷ pos 1 ∷ pos 0 ∷ pos 0 ∷ pos 0 ∷ pos 1 ∷ [] }
-    ensures equal { map (λ e. value_of readings e) (on_ints kind.Boolean comparisons (pos 2) (pos 2))
+    ensures equal { map (λ e. value_of readings e)
+        (on_ints kind.Boolean comparisons (pos 2) (pos 2))
         ≡ pos 0 ∷ pos 1 ∷ pos 0 ∷ pos 1 ∷ pos 1 ∷ pos 0 ∷ [] }
-    ensures greater { map (λ e. value_of readings e) (on_ints kind.Boolean comparisons (pos 2) (negsuc 6))
+    ensures greater { map (λ e. value_of readings e)
+        (on_ints kind.Boolean comparisons (pos 2) (negsuc 6))
         ≡ pos 0 ∷ pos 0 ∷ pos 1 ∷ pos 1 ∷ pos 0 ∷ pos 1 ∷ [] }
     ensures bits { map (λ e. value_of readings e) (on_ints kind.Int bitwise (pos 12) (pos 10))
         ≡ pos 8 ∷ pos 6 ∷ pos 14 ∷ [] }
@@ -88,7 +97,8 @@ pub fn operators_have_their_values()
         ≡ pos 1 ∷ pos 0 ∷ pos 1 ∷ pos 1 ∷ pos 1 ∷ [] }
     ensures one_operand { map (λ o. value_of readings (Unary kind.Int o (variable 1)))
         (op1.Plus ∷ op1.Minus ∷ op1.BitNot ∷ []) ≡ pos 7 ∷ negsuc 6 ∷ negsuc 7 ∷ [] }
-    ensures inverse { map (λ n. value_of readings (Unary kind.Boolean op1.Not (literal kind.Boolean n)))
+    ensures inverse { map
+        (λ n. value_of readings (Unary kind.Boolean op1.Not (literal kind.Boolean n)))
         (0 ∷ 1 ∷ []) ≡ pos 1 ∷ pos 0 ∷ [] }
     ensures casts { map (λ e. value_of readings e) casts
         ≡ negsuc 47 ∷ negsuc 25135 ∷ pos 40400 ∷ pos 40400 ∷ pos 8589974992 ∷ [] }
@@ -126,18 +136,28 @@ pub fn statements_read_the_tick()
 pub fn emissions_are_combined()
     ensures none { folded (summed []) (pos 9) [] ≡ pos 9 }
     ensures one { folded (summed []) (pos 9) (pos 3 ∷ []) ≡ pos 3 }
-    ensures add { folded (signal_of kind.Int combine.Add) (pos 9) (pos 3 ∷ pos 1 ∷ pos 2 ∷ []) ≡ pos 6 }
-    ensures add_wraps { folded (signal_of kind.Byte combine.Add) (pos 9) (pos 100 ∷ pos 100 ∷ []) ≡ negsuc 55 }
-    ensures greatest { folded (signal_of kind.Int combine.Max) (pos 9) (pos 1 ∷ pos 3 ∷ pos 2 ∷ []) ≡ pos 3 }
-    ensures least { folded (signal_of kind.Int combine.Min) (pos 0) (pos 3 ∷ pos 1 ∷ pos 2 ∷ []) ≡ pos 1 }
-    ensures negative { folded (signal_of kind.Int combine.Max) (pos 9) (negsuc 4 ∷ negsuc 1 ∷ []) ≡ negsuc 1 }
-    ensures bits_and { folded (signal_of kind.Int combine.And) (pos 0) (pos 14 ∷ pos 11 ∷ pos 13 ∷ []) ≡ pos 8 }
-    ensures bits_or { folded (signal_of kind.Int combine.Or) (pos 8) (pos 1 ∷ pos 2 ∷ pos 4 ∷ []) ≡ pos 7 }
-    ensures bits_xor { folded (signal_of kind.Int combine.Xor) (pos 8) (pos 1 ∷ pos 3 ∷ pos 7 ∷ []) ≡ pos 5 }
+    ensures add { folded (signal_of kind.Int combine.Add) (pos 9) (pos 3 ∷ pos 1 ∷ pos 2 ∷
+        []) ≡ pos 6 }
+    ensures add_wraps { folded (signal_of kind.Byte combine.Add) (pos 9) (pos 100 ∷ pos 100 ∷ []) ≡
+        negsuc 55 }
+    ensures greatest { folded (signal_of kind.Int combine.Max) (pos 9) (pos 1 ∷ pos 3 ∷ pos 2 ∷
+        []) ≡ pos 3 }
+    ensures least { folded (signal_of kind.Int combine.Min) (pos 0) (pos 3 ∷ pos 1 ∷ pos 2 ∷
+        []) ≡ pos 1 }
+    ensures negative { folded (signal_of kind.Int combine.Max) (pos 9) (negsuc 4 ∷ negsuc 1 ∷ []) ≡
+        negsuc 1 }
+    ensures bits_and { folded (signal_of kind.Int combine.And) (pos 0) (pos 14 ∷ pos 11 ∷ pos 13 ∷
+        []) ≡ pos 8 }
+    ensures bits_or { folded (signal_of kind.Int combine.Or) (pos 8) (pos 1 ∷ pos 2 ∷ pos 4 ∷
+        []) ≡ pos 7 }
+    ensures bits_xor { folded (signal_of kind.Int combine.Xor) (pos 8) (pos 1 ∷ pos 3 ∷ pos 7 ∷
+        []) ≡ pos 5 }
     ensures all { folded (signal_of kind.Boolean combine.And) (pos 0) (pos 1 ∷ pos 1 ∷ []) ≡ pos 1 }
-    ensures not_all { folded (signal_of kind.Boolean combine.And) (pos 1) (pos 1 ∷ pos 0 ∷ []) ≡ pos 0 }
+    ensures not_all { folded (signal_of kind.Boolean combine.And) (pos 1) (pos 1 ∷ pos 0 ∷
+        []) ≡ pos 0 }
     ensures some { folded (signal_of kind.Boolean combine.Or) (pos 0) (pos 0 ∷ pos 1 ∷ []) ≡ pos 1 }
-    ensures even { folded (signal_of kind.Boolean combine.Xor) (pos 1) (pos 1 ∷ pos 1 ∷ []) ≡ pos 0 }
+    ensures even { folded (signal_of kind.Boolean combine.Xor) (pos 1) (pos 1 ∷ pos 1 ∷ []) ≡
+        pos 0 }
 {}
 
 /// At the kind `long` emissions are combined in all 64 bits.

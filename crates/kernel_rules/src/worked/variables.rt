@@ -47,7 +47,8 @@ pub fn if_takes_one_branch()
     ensures first { Shows no_tables (branched true)
         (pauses (emitted 0 0 ∷ []) ∷ ends (emitted 0 0 ∷ []) ∷ []) }
     ensures second { Shows no_tables (branched false) (ends (emitted 1 0 ∷ []) ∷ ends [] ∷ []) }
-    ensures first_ends { Shows no_tables (If (truth true) (emit 0) (emit 1)) (ends (emitted 0 0 ∷ []) ∷ ends [] ∷ []) }
+    ensures first_ends { Shows no_tables (If (truth true) (emit 0) (emit 1)) (ends (emitted 0 0 ∷
+        []) ∷ ends [] ∷ []) }
     ensures second_pauses { Shows no_tables (If (truth false) (emit 0) two_pauses)
         (pauses (emitted 0 0 ∷ []) ∷ pauses (emitted 1 0 ∷ []) ∷ ends [] ∷ []) }
     ensures first_stays { Shows no_tables made_false
@@ -63,7 +64,8 @@ pub fn present_takes_one_branch()
         (pauses_in (statuses (absent ∷ absent ∷ present ∷ [])) (emitted 0 0 ∷ [])
         ∷ ends (emitted 0 0 ∷ []) ∷ []) }
     ensures second { Shows no_tables asked
-        (ends_in (statuses (present ∷ present ∷ absent_with 1 ∷ [])) (emitted 1 0 ∷ []) ∷ ends [] ∷ []) }
+        (ends_in (statuses (present ∷ present ∷ absent_with 1 ∷ [])) (emitted 1 0 ∷ []) ∷
+        ends [] ∷ []) }
     ensures second_stays { Shows no_tables asked_for_absence
         (pauses (emitted 0 0 ∷ [])
         ∷ ends_in (statuses (absent ∷ absent ∷ present ∷ [])) (emitted 0 0 ∷ []) ∷ ends [] ∷ []) }
@@ -145,7 +147,8 @@ pub fn parallel_joins_variables()
         (ends (emitted 1 1 ∷ []) ∷ []) }
     ensures second_ended { Shows no_tables (beside_then_shown Pause (assign 0 1))
         (pauses [] ∷ ends (emitted 1 1 ∷ []) ∷ []) }
-    ensures second_of_ended { Shows no_tables (beside_then_shown Nothing (assign 0 1)) (ends (emitted 1 1 ∷ []) ∷ []) }
+    ensures second_of_ended { Shows no_tables (beside_then_shown Nothing (assign 0 1))
+        (ends (emitted 1 1 ∷ []) ∷ []) }
     ensures unassigned { Shows no_tables (beside_then_shown may_assign (assign 0 2))
         (ends (emitted 1 0 ∷ []) ∷ []) }
     ensures at_exit { Shows no_tables (assigns_beside (Exit 0) Pause)
@@ -154,14 +157,20 @@ pub fn parallel_joins_variables()
         (ends (emitted 0 1 ∷ emitted 1 2 ∷ []) ∷ ends [] ∷ []) }
     ensures at_both_exits { Shows no_tables (assigns_beside (Exit 0) (Exit 0))
         (ends (emitted 0 1 ∷ emitted 1 2 ∷ []) ∷ ends [] ∷ []) }
-    ensures both_at_exit { Shows no_tables (both_assign (Exit 0) Pause) (ends (emitted 1 1 ∷ []) ∷ []) }
-    ensures both_at_second_exit { Shows no_tables (both_assign Pause (Exit 0)) (ends (emitted 1 1 ∷ []) ∷ []) }
-    ensures both_pause { Shows no_tables (both_assign Pause Pause) (pauses [] ∷ ends (emitted 1 1 ∷ []) ∷ []) }
-    ensures both_exit { Shows no_tables (both_assign (Exit 0) (Exit 0)) (ends (emitted 1 1 ∷ []) ∷ []) }
+    ensures both_at_exit { Shows no_tables (both_assign (Exit 0) Pause) (ends (emitted 1 1 ∷
+        []) ∷ []) }
+    ensures both_at_second_exit { Shows no_tables (both_assign Pause (Exit 0)) (ends (emitted 1 1 ∷
+        []) ∷ []) }
+    ensures both_pause { Shows no_tables (both_assign Pause Pause) (pauses [] ∷
+        ends (emitted 1 1 ∷ []) ∷ []) }
+    ensures both_exit { Shows no_tables (both_assign (Exit 0) (Exit 0)) (ends (emitted 1 1 ∷
+        []) ∷ []) }
     ensures unassigned_pause { Shows no_tables (second_assigns Pause Pause)
         (pauses [] ∷ ends (emitted 1 0 ∷ []) ∷ []) }
-    ensures unassigned_exit { Shows no_tables (second_assigns (Exit 0) (Exit 0)) (ends (emitted 1 0 ∷ []) ∷ []) }
-    ensures unassigned_at_exit { Shows no_tables (second_assigns (Exit 0) Pause) (ends (emitted 1 0 ∷ []) ∷ []) }
+    ensures unassigned_exit { Shows no_tables (second_assigns (Exit 0) (Exit 0))
+        (ends (emitted 1 0 ∷ []) ∷ []) }
+    ensures unassigned_at_exit { Shows no_tables (second_assigns (Exit 0) Pause)
+        (ends (emitted 1 0 ∷ []) ∷ []) }
     ensures unassigned_at_second_exit { Shows no_tables (second_assigns Pause (Exit 0))
         (ends (emitted 1 0 ∷ []) ∷ []) }
 {}
@@ -229,33 +238,40 @@ pub fn statement_mentions_what_it_names()
     ensures waiting { map (λ c. mentions_channel waits c) numbers
         ≡ true ∷ true ∷ true ∷ true ∷ false ∷ false ∷ [] }
     ensures around { list_all (λ p. mentions_variable p 3) (forms_around (assign 3 5)) ≡ true }
-    ensures around_other { list_any (λ p. mentions_variable p 2) (forms_around (assign 3 5)) ≡ false }
+    ensures around_other { list_any (λ p. mentions_variable p 2) (forms_around (assign 3 5)) ≡
+        false }
 {}
 
 /// An expression reads what one of its operands reads, and a test tests what one of its parts tests.
 pub fn operands_are_read()
     ensures variable { list_all (λ e. reads_variable e 3) (expressions_around (variable 3)) ≡ true }
     ensures signal { list_all (λ e. reads_signal e 3) (expressions_around (signal_value 3)) ≡ true }
-    ensures channel { list_all (λ e. reads_channel e 3) (expressions_around (channel_value 3)) ≡ true }
+    ensures channel { list_all (λ e. reads_channel e 3) (expressions_around (channel_value 3)) ≡
+        true }
     ensures no_variable { list_any (λ e. reads_variable e 3 || reads_variable e 4)
         (expressions_around (signal_value 3) ++ expressions_around (channel_value 3)) ≡ false }
     ensures no_signal { list_any (λ e. reads_signal e 3 || reads_signal e 4)
         (expressions_around (variable 3) ++ expressions_around (channel_value 3)) ≡ false }
     ensures no_channel { list_any (λ e. reads_channel e 3 || reads_channel e 4)
         (expressions_around (variable 3) ++ expressions_around (signal_value 3)) ≡ false }
-    ensures other_variable { list_any (λ e. reads_variable e 4) (expressions_around (variable 3)) ≡ false }
-    ensures other_signal { list_any (λ e. reads_signal e 4) (expressions_around (signal_value 3)) ≡ false }
-    ensures other_channel { list_any (λ e. reads_channel e 4) (expressions_around (channel_value 3)) ≡ false }
+    ensures other_variable { list_any (λ e. reads_variable e 4) (expressions_around (variable 3)) ≡
+        false }
+    ensures other_signal { list_any (λ e. reads_signal e 4) (expressions_around (signal_value 3)) ≡
+        false }
+    ensures other_channel { list_any (λ e. reads_channel e 4) (expressions_around (channel_value 3))
+        ≡ false }
     ensures tests { list_all (λ t. tests_signal t 3) tests_of_three ≡ true }
     ensures other_tests { list_any (λ t. tests_signal t 2) tests_of_three ≡ false }
 {}
 
 /// Each form by itself mentions what it names, and nothing else.
 pub fn each_form_mentions_what_it_names()
-    ensures variable { list_all (λ p. mentions_variable p 3) (Assign 3 (int 4) ∷ forms_with (variable 3)) ≡ true }
+    ensures variable { list_all (λ p. mentions_variable p 3) (Assign 3 (int 4) ∷
+        forms_with (variable 3)) ≡ true }
     ensures signal { list_all (λ p. mentions_signal p 3)
         (forms_on_signal ++ forms_with (signal_value 3) ++ forms_testing (IsPresent 3)) ≡ true }
-    ensures channel { list_all (λ p. mentions_channel p 3) (forms_on_channel ++ forms_with (channel_value 3)) ≡ true }
+    ensures channel { list_all (λ p. mentions_channel p 3) (forms_on_channel ++
+        forms_with (channel_value 3)) ≡ true }
     ensures no_variable { list_any (λ p. mentions_variable p 3 || mentions_variable p 4)
         (nameless_forms ++ forms_on_signal ++ forms_on_channel ++ forms_testing (IsPresent 3)
         ++ forms_with (signal_value 3) ++ forms_with (channel_value 3)) ≡ false }
@@ -266,10 +282,12 @@ pub fn each_form_mentions_what_it_names()
         (Assign 3 (int 4) ∷ nameless_forms ++ forms_on_signal ++ forms_testing (IsPresent 3)
         ++ forms_with (variable 3) ++ forms_with (signal_value 3)) ≡ false }
     ensures no_channel_besides { list_any (λ p. mentions_channel p 4) forms_on_channel ≡ false }
-    ensures no_signal_besides { list_any (λ p. mentions_signal p 4) (forms_on_signal ++ forms_testing (IsPresent 3)) ≡ false }
+    ensures no_signal_besides { list_any (λ p. mentions_signal p 4) (forms_on_signal ++
+        forms_testing (IsPresent 3)) ≡ false }
     ensures around_signal { list_all (λ p. mentions_signal p 3) (forms_around (emit 3)) ≡ true }
     ensures around_channel { list_all (λ p. mentions_channel p 3) (forms_around (Receive 3)) ≡ true }
-    ensures around_no_channel { list_any (λ p. mentions_channel p 2) (forms_around (Receive 3)) ≡ false }
+    ensures around_no_channel { list_any (λ p. mentions_channel p 2) (forms_around (Receive 3)) ≡
+        false }
 {}
 
 /// Neither branch of a parallel reads what the other assigns in the tick, and the first one's

@@ -32,13 +32,15 @@ int_expression n = expr.roll-Expr (record { kind = kind.Int; form = expr_form.Li
 -- the terms of statements at a place
 
 abbrev pub send_of : ℕ → ℕ → Option ℤ → Option term.Term
-send_of at channel number = option_map (λ n. term_at at (form.Send channel (int_expression n))) number
+send_of at channel number =
+    option_map (λ n. term_at at (form.Send channel (int_expression n))) number
 
 abbrev pub loop_of : ℕ → Option term.Term → Option term.Term
 loop_of at body = option_map (λ b. term_at at (form.Loop b)) body
 
 -- one level of a tree, with the terms of its parts: a form's term at each place, and those of blocks and statements
-abbrev pub form_term : Form-F ℕ expr.Expr (ℕ → Option term.Term) (Option term.Term) (Option term.Term) → ℕ → Option term.Term
+abbrev pub form_term : Form-F ℕ expr.Expr (ℕ →
+    Option term.Term) (Option term.Term) (Option term.Term) → ℕ → Option term.Term
 form_term Form-F.Empty at = Some (term_at at form.Nothing)
 form_term Form-F.Pause at = Some (term_at at form.Pause)
 form_term (Form-F.Emit name_at signal None) at = Some (term_at at (form.Emit signal None))
@@ -47,14 +49,20 @@ form_term (Form-F.Send name_at channel value) at = send_of at channel (int_of (e
 form_term (Form-F.Receive name_at channel) at = Some (term_at at (form.Receive channel))
 form_term _ at = None
 
-abbrev pub block_layer : Block-F ℕ expr.Expr (ℕ → Option term.Term) (Option term.Term) (Option term.Term) → Option term.Term
+abbrev pub block_layer : Block-F ℕ expr.Expr (ℕ →
+    Option term.Term) (Option term.Term) (Option term.Term) → Option term.Term
 block_layer b = option_map (block_of b.at) (all_some b.statements)
 
-abbrev pub stmt_layer : Stmt-F ℕ expr.Expr (ℕ → Option term.Term) (Option term.Term) (Option term.Term) → Option term.Term
+abbrev pub stmt_layer : Stmt-F ℕ expr.Expr (ℕ →
+    Option term.Term) (Option term.Term) (Option term.Term) → Option term.Term
 stmt_layer s = s.form s.at
 
 abbrev pub block_term : TypedBlock → Option term.Term
-block_term = fold-Block ℕ expr.Expr (ℕ → Option term.Term) (Option term.Term) (Option term.Term) form_term block_layer stmt_layer
+block_term =
+    fold-Block ℕ expr.Expr (ℕ →
+    Option term.Term) (Option term.Term) (Option term.Term) form_term block_layer stmt_layer
 
 abbrev pub stmt_term : TypedStmt → Option term.Term
-stmt_term = fold-Stmt ℕ expr.Expr (ℕ → Option term.Term) (Option term.Term) (Option term.Term) form_term block_layer stmt_layer
+stmt_term =
+    fold-Stmt ℕ expr.Expr (ℕ →
+    Option term.Term) (Option term.Term) (Option term.Term) form_term block_layer stmt_layer

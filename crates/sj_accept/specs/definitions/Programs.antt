@@ -20,7 +20,9 @@ with_terms t terms = record { tables = t; terms = terms }
 
 -- of a tree with kinds, where its tables and all its forms are built
 abbrev pub lowered : Tables → TypedTree → Option LoweredProgram
-lowered t tree = cond (tables_are_built t) (option_map (with_terms t) (all_some (map block_term tree.domains))) None
+lowered t tree =
+    cond (tables_are_built t) (option_map (with_terms t) (all_some (map block_term tree.domains)))
+    None
 
 abbrev pub lowered_where : Tables → Option TypedTree → Option LoweredProgram
 lowered_where t None = None

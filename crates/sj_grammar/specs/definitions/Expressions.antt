@@ -52,11 +52,17 @@ IsExpr (Atom t) = is_atom t.class ≡ true
 IsExpr (Least m e) = IsMark mark.Minus m × (is_edge e.class ≡ true)
 IsExpr (Status h n) = IsMark mark.Hash h × IsName n
 IsExpr (Prefix op t e) = (sign_of t.class ≡ Some op) × (level e ≡ 11) × IsExpr e
-IsExpr (Cast k o w c e) = IsMark mark.OpenParen o × (kind_of w.class ≡ Some k) × IsMark mark.CloseParen c × (level e ≡ 11) × IsExpr e
+IsExpr (Cast k o w c e) =
+    IsMark mark.OpenParen o × (kind_of w.class ≡ Some k) × IsMark mark.CloseParen c ×
+    (level e ≡ 11) × IsExpr e
 IsExpr (Group o e c) = IsMark mark.OpenParen o × IsExpr e × IsMark mark.CloseParen c
-IsExpr (Infix op t l r) = (infix_of t.class ≡ Some op) × (level_of op ≤ level l) × (level_of op < level r) × IsExpr l × IsExpr r
+IsExpr (Infix op t l r) =
+    (infix_of t.class ≡ Some op) × (level_of op ≤ level l) × (level_of op < level r) × IsExpr l ×
+    IsExpr r
 
 -- the tree of an expression with one more operator and operand after it
 abbrev pub insert : Expr → Op2 → Token → Expr → Expr
-insert (Infix p s l r) op t e = cond (nat_lt (level_of p) (level_of op)) (Infix p s l (insert r op t e)) (Infix op t (Infix p s l r) e)
+insert (Infix p s l r) op t e =
+    cond (nat_lt (level_of p) (level_of op)) (Infix p s l (insert r op t e))
+    (Infix op t (Infix p s l r) e)
 insert l op t e = Infix op t l e

@@ -6,10 +6,12 @@ use Rattle.sj_grammar.specs.definitions.Walks.{level_after, operators_after, is_
 
 -- the run is read within the limits, the rest follows it, and the property holds of what is left, of the levels and of
 -- the operators
-abbrev pub ReadsTo : (List Symbol → ℕ → ℕ → Type 0) → List Symbol → ℕ → ℕ → List Token → List Token → Type 0
+abbrev pub ReadsTo : (List Symbol → ℕ → ℕ → Type 0) → List Symbol → ℕ → ℕ → List Token →
+    List Token → Type 0
 ReadsTo P k d n [] rest = P k d n
 ReadsTo P k d n (t ∷ run) rest =
-    (j : List Symbol) × (next k t.class ≡ Some j) × (is_too_deep d n t.class j (run ++ rest) ≡ false)
+    (j : List Symbol) × (next k t.class ≡ Some j) ×
+    (is_too_deep d n t.class j (run ++ rest) ≡ false)
     × ReadsTo P j (level_after d t.class) (operators_after n t.class j (run ++ rest)) run rest
 
 -- no token of the run is too deep
@@ -23,7 +25,8 @@ pub record IsDeep (token : Token) (after : List Token) (k : List Symbol) (d n : 
   pub deep : is_too_deep d n token.class left after ≡ true
 
 -- behind the run, whose tokens aren't, this token is too deep
-pub record IsTooDeepBehind (k : List Symbol) (d n : ℕ) (run : List Token) (token : Token) (after : List Token) : Type 0 where
+pub record IsTooDeepBehind (k : List Symbol) (d n : ℕ) (run : List Token) (token : Token)
+    (after : List Token) : Type 0 where
   pub reads : ReadsTo (IsDeep token after) k d n run (token ∷ after)
 
 -- no token of the rest can be read
@@ -31,7 +34,8 @@ pub record IsBlocked (left : List Symbol) (rest : List Token) : Type 0 where
   pub none : (t : Token) (more : List Token) → rest ≡ t ∷ more → next left t.class ≡ None
 
 -- the run is read, and no token after it can be; `ends` is whether nothing need follow
-pub record Halts (k : List Symbol) (d n : ℕ) (tokens : List Token) (ends : Bool) (rest : List Token) : Type 0 where
+pub record Halts (k : List Symbol) (d n : ℕ) (tokens : List Token) (ends : Bool) (rest : List Token)
+    : Type 0 where
   pub run : List Token
   pub left : List Symbol
   pub is : tokens ≡ run ++ rest

@@ -56,29 +56,42 @@ test_step test_lead.Nothing k = None
 
 -- `(` [ `immediate` ] test `)`
 abbrev pub guard_then : List Symbol → List Symbol
-guard_then k = T (Mark mark.OpenParen) ∷ ImmediatePart ∷ TestOperand ∷ MoreTest ∷ T (Mark mark.CloseParen) ∷ k
+guard_then k =
+    T (Mark mark.OpenParen) ∷ ImmediatePart ∷ TestOperand ∷ MoreTest ∷ T (Mark mark.CloseParen) ∷ k
 
 -- after the first token of a statement
 abbrev pub start_step : Start → List Symbol → Option (List Symbol)
 start_step start.Empty k = Some k
-start_step start.Braces k = Some (Statements ∷ T (Mark mark.CloseBrace) ∷ OthersPart mark.Either ∷ k)
+start_step start.Braces k =
+    Some (Statements ∷ T (Mark mark.CloseBrace) ∷ OthersPart mark.Either ∷ k)
 start_step start.Still k = Some (T (Mark mark.Semicolon) ∷ k)
 start_step start.Emit k = Some (T Name ∷ ValuePart ∷ T (Mark mark.Semicolon) ∷ k)
 start_step start.Signal k = Some (T Name ∷ T (Mark mark.Semicolon) ∷ k)
 start_step (start.Kind kind) k = Some (AfterKind ∷ k)
 start_step start.Name k = Some (AssignSign ∷ Operand ∷ More ∷ T (Mark mark.Semicolon) ∷ k)
-start_step start.If k = Some (T (Mark mark.OpenParen) ∷ Operand ∷ More ∷ T (Mark mark.CloseParen) ∷ InBraces ∷ ElsePart ∷ k)
-start_step start.Present k = Some (T (Mark mark.OpenParen) ∷ TestOperand ∷ MoreTest ∷ T (Mark mark.CloseParen) ∷ InBraces ∷ ElsePart ∷ k)
-start_step start.While k = Some (T (Mark mark.OpenParen) ∷ T (Reserved word.True) ∷ T (Mark mark.CloseParen) ∷ InBraces ∷ k)
+start_step start.If k =
+    Some (T (Mark mark.OpenParen) ∷ Operand ∷ More ∷ T (Mark mark.CloseParen) ∷ InBraces ∷
+    ElsePart ∷ k)
+start_step start.Present k =
+    Some (T (Mark mark.OpenParen) ∷ TestOperand ∷ MoreTest ∷ T (Mark mark.CloseParen) ∷ InBraces ∷
+    ElsePart ∷ k)
+start_step start.While k =
+    Some (T (Mark mark.OpenParen) ∷ T (Reserved word.True) ∷ T (Mark mark.CloseParen) ∷
+    InBraces ∷ k)
 start_step start.Weak k = Some (T (Reserved word.Abort) ∷ guard_then (InBraces ∷ k))
 start_step start.Guarded k = Some (guard_then (InBraces ∷ k))
-start_step start.Trap k = Some (T (Mark mark.OpenParen) ∷ T Name ∷ T (Mark mark.CloseParen) ∷ InBraces ∷ k)
-start_step start.Exit k = Some (T (Mark mark.OpenParen) ∷ T Name ∷ T (Mark mark.CloseParen) ∷ T (Mark mark.Semicolon) ∷ k)
-start_step start.Send k = Some (T Name ∷ T (Mark mark.OpenParen) ∷ Operand ∷ More ∷ T (Mark mark.CloseParen) ∷ T (Mark mark.Semicolon) ∷ k)
+start_step start.Trap k =
+    Some (T (Mark mark.OpenParen) ∷ T Name ∷ T (Mark mark.CloseParen) ∷ InBraces ∷ k)
+start_step start.Exit k =
+    Some (T (Mark mark.OpenParen) ∷ T Name ∷ T (Mark mark.CloseParen) ∷ T (Mark mark.Semicolon) ∷ k)
+start_step start.Send k =
+    Some (T Name ∷ T (Mark mark.OpenParen) ∷ Operand ∷ More ∷ T (Mark mark.CloseParen) ∷
+    T (Mark mark.Semicolon) ∷ k)
 start_step start.Receive k = Some (T Name ∷ T (Mark mark.Semicolon) ∷ k)
 start_step start.Await k = Some (guard_then (T (Mark mark.Semicolon) ∷ k))
 start_step start.Loop k =
-    Some (InBraces ∷ T (Reserved word.Each) ∷ T (Mark mark.OpenParen) ∷ TestOperand ∷ MoreTest ∷ T (Mark mark.CloseParen) ∷ T (Mark mark.Semicolon) ∷ k)
+    Some (InBraces ∷ T (Reserved word.Each) ∷ T (Mark mark.OpenParen) ∷ TestOperand ∷ MoreTest ∷
+    T (Mark mark.CloseParen) ∷ T (Mark mark.Semicolon) ∷ k)
 start_step start.Nothing k = None
 
 -- what is still to be read after a token of the class, where the symbol may begin with it
@@ -86,28 +99,35 @@ abbrev pub expand : Symbol → Class → List Symbol → Option (List Symbol)
 expand (T d) c k = cond (same d c) (Some k) None
 expand Operand c k = lead_step (lead_of c) k
 expand AfterMinus c k = cond (is_edge c) (Some k) (lead_step (lead_of c) k)
-expand AfterOpen c k = cond (has (kind_of c)) (Some (T (Mark mark.CloseParen) ∷ Operand ∷ k)) (lead_step (lead_of c) (More ∷ T (Mark mark.CloseParen) ∷ k))
+expand AfterOpen c k =
+    cond (has (kind_of c)) (Some (T (Mark mark.CloseParen) ∷ Operand ∷
+    k)) (lead_step (lead_of c) (More ∷ T (Mark mark.CloseParen) ∷ k))
 expand More c k = cond (has (infix_of c)) (Some (Operand ∷ More ∷ k)) None
 expand TestOperand c k = test_step (test_lead_of c) k
 expand MoreTest c k = cond (has (join_of c)) (Some (TestOperand ∷ MoreTest ∷ k)) None
 expand ImmediatePart c k = cond (same (Reserved word.Immediate) c) (Some k) None
-expand InBraces c k = cond (same (Mark mark.OpenBrace) c) (Some (Statements ∷ T (Mark mark.CloseBrace) ∷ k)) None
+expand InBraces c k =
+    cond (same (Mark mark.OpenBrace) c) (Some (Statements ∷ T (Mark mark.CloseBrace) ∷ k)) None
 expand Statements c k = start_step (start_of c) (Statements ∷ k)
 expand (OthersPart m) c k = cond (same (Mark m) c) (Some (InBraces ∷ OthersPart m ∷ k)) None
 expand ElsePart c k = cond (same (Reserved word.Else) c) (Some (InBraces ∷ k)) None
-expand ValuePart c k = cond (same (Mark mark.OpenParen) c) (Some (Operand ∷ More ∷ T (Mark mark.CloseParen) ∷ k)) None
+expand ValuePart c k =
+    cond (same (Mark mark.OpenParen) c) (Some (Operand ∷ More ∷ T (Mark mark.CloseParen) ∷ k)) None
 expand AssignSign c k = cond (has (assign_of c)) (Some k) None
 expand AfterKind c k =
     cond (same (Reserved word.Signal) c) (Some (T Name ∷ CombinePart ∷ T (Mark mark.Semicolon) ∷ k))
-    (cond (same Name c) (Some (T (Mark mark.Assign) ∷ Operand ∷ More ∷ T (Mark mark.Semicolon) ∷ k)) None)
+    (cond (same Name c) (Some (T (Mark mark.Assign) ∷ Operand ∷ More ∷ T (Mark mark.Semicolon) ∷
+    k)) None)
 expand CombinePart c k = cond (same (Reserved word.Combine) c) (Some (CombineSign ∷ k)) None
 expand CombineSign c k = cond (has (combine_of c)) (Some k) None
 expand PortList c k =
     cond (has (direction_of c)) (Some (SignalPart ∷ PortList ∷ k))
-    (cond (has (kind_of c)) (Some (T (Reserved word.Channel) ∷ T Name ∷ T (Mark mark.Semicolon) ∷ PortList ∷ k)) None)
+    (cond (has (kind_of c)) (Some (T (Reserved word.Channel) ∷ T Name ∷ T (Mark mark.Semicolon) ∷
+    PortList ∷ k)) None)
 expand SignalPart c k =
     cond (same (Reserved word.Signal) c) (Some (T Name ∷ T (Mark mark.Semicolon) ∷ k))
-    (cond (has (kind_of c)) (Some (T (Reserved word.Signal) ∷ T Name ∷ CombinePart ∷ T (Mark mark.Semicolon) ∷ k)) None)
+    (cond (has (kind_of c)) (Some (T (Reserved word.Signal) ∷ T Name ∷ CombinePart ∷
+    T (Mark mark.Semicolon) ∷ k)) None)
 
 -- the symbol may stand for no token
 abbrev pub may_end : Symbol → Bool
@@ -148,7 +168,8 @@ test = TestOperand ∷ MoreTest ∷ []
 
 abbrev pub program : List Symbol
 program =
-    T (Reserved word.System) ∷ T (Mark mark.OpenBrace) ∷ T (Reserved word.Interface) ∷ T (Mark mark.OpenBrace) ∷ PortList ∷ T (Mark mark.CloseBrace)
+    T (Reserved word.System) ∷ T (Mark mark.OpenBrace) ∷ T (Reserved word.Interface) ∷
+    T (Mark mark.OpenBrace) ∷ PortList ∷ T (Mark mark.CloseBrace)
     ∷ InBraces ∷ OthersPart mark.Beside ∷ T (Mark mark.CloseBrace) ∷ []
 
 -- the tokens can be read

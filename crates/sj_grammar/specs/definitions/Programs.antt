@@ -20,7 +20,8 @@ print_port (ChannelPort k v w n s) after = v ∷ w ∷ n ∷ s ∷ after
 
 abbrev pub IsPort : Port → Type 0
 IsPort (SignalPort d w s) = (direction_of w.class ≡ Some d) × IsDeclared s
-IsPort (ChannelPort k v w n s) = (kind_of v.class ≡ Some k) × IsWord word.Channel w × IsName n × IsMark mark.Semicolon s
+IsPort (ChannelPort k v w n s) =
+    (kind_of v.class ≡ Some k) × IsWord word.Channel w × IsName n × IsMark mark.Semicolon s
 
 -- { port }
 pub data Ports : Type 0 where
@@ -50,7 +51,8 @@ pub record Program : Type 0 where
 abbrev pub print_program : Program → List Token → List Token
 print_program p after =
     p.system ∷ p.open_system ∷ p.interface ∷ p.open_ports
-    ∷ print_ports p.ports (p.close_ports ∷ print_block p.first (print_others p.others (p.close_system ∷ after)))
+    ∷ print_ports p.ports (p.close_ports ∷
+    print_block p.first (print_others p.others (p.close_system ∷ after)))
 
 pub record IsProgram (p : Program) : Type 0 where
   pub system : IsWord word.System p.system

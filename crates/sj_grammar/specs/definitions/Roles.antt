@@ -229,4 +229,5 @@ is_closing c = same (Mark mark.CloseParen) c || same (Mark mark.CloseBrace) c
 abbrev pub is_inside : Class → Bool
 is_inside c =
     is_atom c || (is_edge c || (has (sign_of c) || (has (infix_of c) || (has (kind_of c)
-    || (same (Mark mark.Hash) c || (same (Mark mark.OpenParen) c || same (Mark mark.CloseParen) c))))))
+    || (same (Mark mark.Hash) c ||
+    (same (Mark mark.OpenParen) c || same (Mark mark.CloseParen) c))))))

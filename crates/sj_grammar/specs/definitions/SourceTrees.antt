@@ -13,7 +13,8 @@ use Rattle.sj_grammar.specs.definitions.Programs.{print_program, IsProgram}
 use Rattle.sj_grammar.specs.definitions.Trees.{raw_of, test_of, SourceBlock, block_of, tree_of}
 
 -- the source's tokens are a sentence of the grammar, and this is its tree
-pub record IsMadeOf {S T : Type 0} (Is : S → Type 0) (print_all : S → List Token → List Token) (made : List ℕ → S → T) (source : List ℕ) (tree : T) : Type 0 where
+pub record IsMadeOf {S T : Type 0} (Is : S → Type 0) (print_all : S → List Token →
+    List Token) (made : List ℕ → S → T) (source : List ℕ) (tree : T) : Type 0 where
   pub tokens : List Token
   pub are : AreTokens source tokens
   pub sentence : S

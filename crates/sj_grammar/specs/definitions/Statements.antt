@@ -35,7 +35,8 @@ print_guard (AtOnce o i t c) after = o ∷ i ∷ print_test t (c ∷ after)
 
 abbrev pub IsGuard : Guard → Type 0
 IsGuard (Later o t c) = IsMark mark.OpenParen o × IsTest t × IsMark mark.CloseParen c
-IsGuard (AtOnce o i t c) = IsMark mark.OpenParen o × IsWord word.Immediate i × IsTest t × IsMark mark.CloseParen c
+IsGuard (AtOnce o i t c) =
+    IsMark mark.OpenParen o × IsWord word.Immediate i × IsTest t × IsMark mark.CloseParen c
 
 -- [ `combine` operator ]
 pub data Combined : Type 0 where
@@ -53,7 +54,8 @@ IsCombined (CombinedBy op w t) = IsWord word.Combine w × (combine_of t.class �
 -- `signal` NAME `;` | kind `signal` NAME [ `combine` operator ] `;`
 pub data Declared : Type 0 where
   Pure : (keyword name semicolon : Token) → Declared
-  Valued : (kind : Kind) (kind_word keyword name : Token) (combined : Combined) (semicolon : Token) → Declared
+  Valued : (kind : Kind) (kind_word keyword name : Token) (combined : Combined) (semicolon : Token)
+      → Declared
 
 abbrev pub print_declared : Declared → List Token → List Token
 print_declared (Pure w n s) after = w ∷ n ∷ s ∷ after
@@ -61,7 +63,9 @@ print_declared (Valued k v w n c s) after = v ∷ w ∷ n ∷ print_combined c (
 
 abbrev pub IsDeclared : Declared → Type 0
 IsDeclared (Pure w n s) = IsWord word.Signal w × IsName n × IsMark mark.Semicolon s
-IsDeclared (Valued k v w n c s) = (kind_of v.class ≡ Some k) × IsWord word.Signal w × IsName n × IsCombined c × IsMark mark.Semicolon s
+IsDeclared (Valued k v w n c s) =
+    (kind_of v.class ≡ Some k) × IsWord word.Signal w × IsName n × IsCombined c ×
+    IsMark mark.Semicolon s
 
 mutual
   pub data Stmt : Type 0 where
@@ -70,19 +74,24 @@ mutual
     StillStmt : (keyword semicolon : Token) → Stmt
     EmitStmt : (keyword name : Token) (given : Given) (semicolon : Token) → Stmt
     SignalStmt : (signal : Declared) → Stmt
-    VariableStmt : (kind : Kind) (kind_word name token : Token) (value : Expr) (semicolon : Token) → Stmt
+    VariableStmt : (kind : Kind) (kind_word name token : Token) (value : Expr) (semicolon : Token) →
+        Stmt
     AssignStmt : (op : Option Op2) (name token : Token) (value : Expr) (semicolon : Token) → Stmt
-    IfStmt : (keyword open_paren : Token) (value : Expr) (close_paren : Token) (body : Block) (other : Other) → Stmt
-    PresentStmt : (keyword open_paren : Token) (test : Test) (close_paren : Token) (body : Block) (other : Other) → Stmt
+    IfStmt : (keyword open_paren : Token) (value : Expr) (close_paren : Token) (body : Block)
+        (other : Other) → Stmt
+    PresentStmt : (keyword open_paren : Token) (test : Test) (close_paren : Token) (body : Block)
+        (other : Other) → Stmt
     WhileStmt : (keyword open_paren truth close_paren : Token) (body : Block) → Stmt
     GuardedStmt : (keyword : Token) (guard : Guard) (body : Block) → Stmt
     WeakStmt : (weak keyword : Token) (guard : Guard) (body : Block) → Stmt
     TrapStmt : (keyword open_paren name close_paren : Token) (body : Block) → Stmt
     ExitStmt : (keyword open_paren name close_paren semicolon : Token) → Stmt
-    SendStmt : (keyword name open_paren : Token) (value : Expr) (close_paren semicolon : Token) → Stmt
+    SendStmt : (keyword name open_paren : Token) (value : Expr) (close_paren semicolon : Token) →
+        Stmt
     ReceiveStmt : (keyword name semicolon : Token) → Stmt
     AwaitStmt : (keyword : Token) (guard : Guard) (semicolon : Token) → Stmt
-    LoopStmt : (keyword : Token) (body : Block) (each open_paren : Token) (test : Test) (close_paren semicolon : Token) → Stmt
+    LoopStmt : (keyword : Token) (body : Block) (each open_paren : Token) (test : Test)
+        (close_paren semicolon : Token) → Stmt
 
   pub data Stmts : Type 0 where
     Done : Stmts
@@ -114,8 +123,10 @@ abbrev mutual
   print_stmt (SignalStmt d) after = print_declared d after
   print_stmt (VariableStmt k v n t e s) after = v ∷ n ∷ t ∷ print e (s ∷ after)
   print_stmt (AssignStmt op n t e s) after = n ∷ t ∷ print e (s ∷ after)
-  print_stmt (IfStmt w o e c b other) after = w ∷ o ∷ print e (c ∷ print_block b (print_other other after))
-  print_stmt (PresentStmt w o t c b other) after = w ∷ o ∷ print_test t (c ∷ print_block b (print_other other after))
+  print_stmt (IfStmt w o e c b other) after =
+      w ∷ o ∷ print e (c ∷ print_block b (print_other other after))
+  print_stmt (PresentStmt w o t c b other) after =
+      w ∷ o ∷ print_test t (c ∷ print_block b (print_other other after))
   print_stmt (WhileStmt w o t c b) after = w ∷ o ∷ t ∷ c ∷ print_block b after
   print_stmt (GuardedStmt w g b) after = w ∷ print_guard g (print_block b after)
   print_stmt (WeakStmt v w g b) after = v ∷ w ∷ print_guard g (print_block b after)
@@ -124,7 +135,8 @@ abbrev mutual
   print_stmt (SendStmt w n o e c s) after = w ∷ n ∷ o ∷ print e (c ∷ s ∷ after)
   print_stmt (ReceiveStmt w n s) after = w ∷ n ∷ s ∷ after
   print_stmt (AwaitStmt w g s) after = w ∷ print_guard g (s ∷ after)
-  print_stmt (LoopStmt w b v o t c s) after = w ∷ print_block b (v ∷ o ∷ print_test t (c ∷ s ∷ after))
+  print_stmt (LoopStmt w b v o t c s) after =
+      w ∷ print_block b (v ∷ o ∷ print_test t (c ∷ s ∷ after))
 
   -- { statement }
   pub print_stmts : Stmts → List Token → List Token
@@ -151,21 +163,38 @@ abbrev mutual
   IsStmt (EmptyStmt s) = IsMark mark.Semicolon s
   IsStmt (ParStmt b o) = IsBlock b × IsOthers mark.Either o
   IsStmt (StillStmt w s) = (is_still w.class ≡ true) × IsMark mark.Semicolon s
-  IsStmt (EmitStmt w n v s) = (is_emission w.class ≡ true) × IsName n × IsGiven v × IsMark mark.Semicolon s
+  IsStmt (EmitStmt w n v s) =
+      (is_emission w.class ≡ true) × IsName n × IsGiven v × IsMark mark.Semicolon s
   IsStmt (SignalStmt d) = IsDeclared d
-  IsStmt (VariableStmt k v n t e s) = (kind_of v.class ≡ Some k) × IsName n × IsMark mark.Assign t × IsExpr e × IsMark mark.Semicolon s
-  IsStmt (AssignStmt op n t e s) = IsName n × (assign_of t.class ≡ Some op) × IsExpr e × IsMark mark.Semicolon s
-  IsStmt (IfStmt w o e c b other) = IsWord word.If w × IsMark mark.OpenParen o × IsExpr e × IsMark mark.CloseParen c × IsBlock b × IsOther other
-  IsStmt (PresentStmt w o t c b other) = IsWord word.Present w × IsMark mark.OpenParen o × IsTest t × IsMark mark.CloseParen c × IsBlock b × IsOther other
-  IsStmt (WhileStmt w o t c b) = IsWord word.While w × IsMark mark.OpenParen o × IsWord word.True t × IsMark mark.CloseParen c × IsBlock b
+  IsStmt (VariableStmt k v n t e s) =
+      (kind_of v.class ≡ Some k) × IsName n × IsMark mark.Assign t × IsExpr e ×
+      IsMark mark.Semicolon s
+  IsStmt (AssignStmt op n t e s) =
+      IsName n × (assign_of t.class ≡ Some op) × IsExpr e × IsMark mark.Semicolon s
+  IsStmt (IfStmt w o e c b other) =
+      IsWord word.If w × IsMark mark.OpenParen o × IsExpr e × IsMark mark.CloseParen c × IsBlock b ×
+      IsOther other
+  IsStmt (PresentStmt w o t c b other) =
+      IsWord word.Present w × IsMark mark.OpenParen o × IsTest t × IsMark mark.CloseParen c ×
+      IsBlock b × IsOther other
+  IsStmt (WhileStmt w o t c b) =
+      IsWord word.While w × IsMark mark.OpenParen o × IsWord word.True t ×
+      IsMark mark.CloseParen c × IsBlock b
   IsStmt (GuardedStmt w g b) = (is_guarded w.class ≡ true) × IsGuard g × IsBlock b
   IsStmt (WeakStmt v w g b) = IsWord word.Weak v × IsWord word.Abort w × IsGuard g × IsBlock b
-  IsStmt (TrapStmt w o n c b) = IsWord word.Trap w × IsMark mark.OpenParen o × IsName n × IsMark mark.CloseParen c × IsBlock b
-  IsStmt (ExitStmt w o n c s) = IsWord word.Exit w × IsMark mark.OpenParen o × IsName n × IsMark mark.CloseParen c × IsMark mark.Semicolon s
-  IsStmt (SendStmt w n o e c s) = IsWord word.Send w × IsName n × IsMark mark.OpenParen o × IsExpr e × IsMark mark.CloseParen c × IsMark mark.Semicolon s
+  IsStmt (TrapStmt w o n c b) =
+      IsWord word.Trap w × IsMark mark.OpenParen o × IsName n × IsMark mark.CloseParen c × IsBlock b
+  IsStmt (ExitStmt w o n c s) =
+      IsWord word.Exit w × IsMark mark.OpenParen o × IsName n × IsMark mark.CloseParen c ×
+      IsMark mark.Semicolon s
+  IsStmt (SendStmt w n o e c s) =
+      IsWord word.Send w × IsName n × IsMark mark.OpenParen o × IsExpr e ×
+      IsMark mark.CloseParen c × IsMark mark.Semicolon s
   IsStmt (ReceiveStmt w n s) = IsWord word.Receive w × IsName n × IsMark mark.Semicolon s
   IsStmt (AwaitStmt w g s) = IsWord word.Await w × IsGuard g × IsMark mark.Semicolon s
-  IsStmt (LoopStmt w b v o t c s) = IsWord word.Loop w × IsBlock b × IsWord word.Each v × IsMark mark.OpenParen o × IsTest t × IsMark mark.CloseParen c × IsMark mark.Semicolon s
+  IsStmt (LoopStmt w b v o t c s) =
+      IsWord word.Loop w × IsBlock b × IsWord word.Each v × IsMark mark.OpenParen o × IsTest t ×
+      IsMark mark.CloseParen c × IsMark mark.Semicolon s
 
   pub IsStmts : Stmts → Type 0
   IsStmts Done = Unit {0}

@@ -29,9 +29,13 @@ abbrev pub IsTest : Test → Type 0
 IsTest (SignalTest n) = IsName n
 IsTest (NotTest b t) = IsMark mark.Bang b × (test_level t ≡ 3) × IsTest t
 IsTest (GroupTest o t c) = IsMark mark.OpenParen o × IsTest t × IsMark mark.CloseParen c
-IsTest (JoinTest j s l r) = (join_of s.class ≡ Some j) × (join_level j ≤ test_level l) × (join_level j < test_level r) × IsTest l × IsTest r
+IsTest (JoinTest j s l r) =
+    (join_of s.class ≡ Some j) × (join_level j ≤ test_level l) × (join_level j < test_level r) ×
+    IsTest l × IsTest r
 
 -- the tree of a test with one more operator and operand after it
 abbrev pub insert_test : Test → Join → Token → Test → Test
-insert_test (JoinTest i s l r) j t e = cond (nat_lt (join_level i) (join_level j)) (JoinTest i s l (insert_test r j t e)) (JoinTest j t (JoinTest i s l r) e)
+insert_test (JoinTest i s l r) j t e =
+    cond (nat_lt (join_level i) (join_level j)) (JoinTest i s l (insert_test r j t e))
+    (JoinTest j t (JoinTest i s l r) e)
 insert_test l j t e = JoinTest j t l e

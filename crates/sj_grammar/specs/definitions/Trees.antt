@@ -32,8 +32,10 @@ name_of source t = record { text = text_of source t; at = t.start }
 -- a literal, or the variable of a name
 abbrev pub atom_of : List ℕ → Class → Token → raw.Raw Name
 atom_of source (Literal v) t = raw.Literal t.start v
-atom_of source (Reserved word.True) t = raw.Literal t.start (record { kind = kind.Boolean; number = pos 1 })
-atom_of source (Reserved word.False) t = raw.Literal t.start (record { kind = kind.Boolean; number = pos 0 })
+atom_of source (Reserved word.True) t =
+    raw.Literal t.start (record { kind = kind.Boolean; number = pos 1 })
+atom_of source (Reserved word.False) t =
+    raw.Literal t.start (record { kind = kind.Boolean; number = pos 0 })
 atom_of source _ t = raw.Variable t.start (name_of source t)
 
 -- the least `long`, and else the least `int`
@@ -78,7 +80,12 @@ combination_of (CombinedBy op w t) = Some (record { at = t.start; operator = op 
 
 abbrev pub signal_of : List ℕ → Declared → Signal Name
 signal_of source (Pure w n s) = record { at = n.start; name = name_of source n; valued = None }
-signal_of source (Valued k v w n c s) = record { at = n.start; name = name_of source n; valued = Some (record { kind = k; combine = combination_of c }) }
+signal_of source (Valued k v w n c s) =
+    record {
+      at = n.start;
+      name = name_of source n;
+      valued = Some (record { kind = k; combine = combination_of c });
+    }
 
 abbrev pub SourceForm : Type 0
 SourceForm = form.Form Name (raw.Raw Name)
@@ -111,7 +118,8 @@ abbrev pub placed : Token → SourceForm → SourceStmt
 placed t f = stmt.roll-Stmt Name (raw.Raw Name) (record { at = t.start; form = f })
 
 abbrev pub block_at : Token → List SourceStmt → SourceBlock
-block_at t statements = block.roll-Block Name (raw.Raw Name) (record { at = t.start; statements = statements })
+block_at t statements =
+    block.roll-Block Name (raw.Raw Name) (record { at = t.start; statements = statements })
 
 abbrev pub first_token : Block → Token
 first_token (Braces o ss c) = o
@@ -119,24 +127,36 @@ first_token (Braces o ss c) = o
 abbrev mutual
   pub stmt_of : List ℕ → Stmt → SourceStmt
   stmt_of source (EmptyStmt s) = placed s form.Empty
-  stmt_of source (ParStmt b o) = placed (first_token b) (form.Par (block_of source b) (others_of source o))
+  stmt_of source (ParStmt b o) =
+      placed (first_token b) (form.Par (block_of source b) (others_of source o))
   stmt_of source (StillStmt w s) = placed w (still_form w.class)
-  stmt_of source (EmitStmt w n v s) = placed w (emission_form w.class n.start (name_of source n) (value_of source v))
+  stmt_of source (EmitStmt w n v s) =
+      placed w (emission_form w.class n.start (name_of source n) (value_of source v))
   stmt_of source (SignalStmt (Pure w n s)) = placed w (form.Declare (signal_of source (Pure w n s)))
-  stmt_of source (SignalStmt (Valued k v w n c s)) = placed v (form.Declare (signal_of source (Valued k v w n c s)))
-  stmt_of source (VariableStmt k v n t e s) = placed v (form.Variable k n.start (name_of source n) (raw_of source e))
-  stmt_of source (AssignStmt op n t e s) = placed n (assign_form op n.start (name_of source n) t.start (raw_of source e))
-  stmt_of source (IfStmt w o e c b other) = placed w (form.If (raw_of source e) (block_of source b) (other_of source other))
-  stmt_of source (PresentStmt w o t c b other) = placed w (form.Present (test_of source t) (block_of source b) (other_of source other))
+  stmt_of source (SignalStmt (Valued k v w n c s)) =
+      placed v (form.Declare (signal_of source (Valued k v w n c s)))
+  stmt_of source (VariableStmt k v n t e s) =
+      placed v (form.Variable k n.start (name_of source n) (raw_of source e))
+  stmt_of source (AssignStmt op n t e s) =
+      placed n (assign_form op n.start (name_of source n) t.start (raw_of source e))
+  stmt_of source (IfStmt w o e c b other) =
+      placed w (form.If (raw_of source e) (block_of source b) (other_of source other))
+  stmt_of source (PresentStmt w o t c b other) =
+      placed w (form.Present (test_of source t) (block_of source b) (other_of source other))
   stmt_of source (WhileStmt w o t c b) = placed w (form.While (block_of source b))
-  stmt_of source (GuardedStmt w g b) = placed w (guarded_form w.class (is_at_once g) (guard_test source g) (block_of source b))
-  stmt_of source (WeakStmt v w g b) = placed v (form.Abort true (is_at_once g) (guard_test source g) (block_of source b))
-  stmt_of source (TrapStmt w o n c b) = placed w (form.Trap n.start (name_of source n) (block_of source b))
+  stmt_of source (GuardedStmt w g b) =
+      placed w (guarded_form w.class (is_at_once g) (guard_test source g) (block_of source b))
+  stmt_of source (WeakStmt v w g b) =
+      placed v (form.Abort true (is_at_once g) (guard_test source g) (block_of source b))
+  stmt_of source (TrapStmt w o n c b) =
+      placed w (form.Trap n.start (name_of source n) (block_of source b))
   stmt_of source (ExitStmt w o n c s) = placed w (form.Exit n.start (name_of source n))
-  stmt_of source (SendStmt w n o e c s) = placed w (form.Send n.start (name_of source n) (raw_of source e))
+  stmt_of source (SendStmt w n o e c s) =
+      placed w (form.Send n.start (name_of source n) (raw_of source e))
   stmt_of source (ReceiveStmt w n s) = placed w (form.Receive n.start (name_of source n))
   stmt_of source (AwaitStmt w g s) = placed w (form.Await (is_at_once g) (guard_test source g))
-  stmt_of source (LoopStmt w b v o t c s) = placed w (form.Loop (block_of source b) (test_of source t))
+  stmt_of source (LoopStmt w b v o t c s) =
+      placed w (form.Loop (block_of source b) (test_of source t))
 
   pub stmts_of : List ℕ → Stmts → List SourceStmt
   stmts_of source Done = []
@@ -154,12 +174,19 @@ abbrev mutual
   others_of source (Beside t b o) = block_of source b ∷ others_of source o
 
 abbrev pub port_of : List ℕ → Port → port.Port Name
-port_of source (SignalPort d w s) = port_is.Signal (record { direction = d; signal = signal_of source s })
-port_of source (ChannelPort k v w n s) = port_is.Channel (record { kind = k; at = n.start; name = name_of source n })
+port_of source (SignalPort d w s) =
+    port_is.Signal (record { direction = d; signal = signal_of source s })
+port_of source (ChannelPort k v w n s) =
+    port_is.Channel (record { kind = k; at = n.start; name = name_of source n })
 
 abbrev pub ports_of : List ℕ → Ports → List (port.Port Name)
 ports_of source NoPort = []
 ports_of source (PortThen p ps) = port_of source p ∷ ports_of source ps
 
 abbrev pub tree_of : List ℕ → Program → Tree Name (raw.Raw Name)
-tree_of source p = record { ports = ports_of source p.ports; domains = block_of source p.first ∷ others_of source p.others }
+tree_of source p =
+    record {
+      ports = ports_of source p.ports;
+      domains = block_of source p.first ∷
+          others_of source p.others;
+    }

@@ -19,7 +19,8 @@ opens_cast _ _ = false
 
 -- The token is an operator, by the symbols left behind it and the tokens after it: a `(` is that of a cast.
 abbrev pub is_operator : Class → List Symbol → List Token → Bool
-is_operator c k after = cond (same (Mark mark.OpenParen) c) (opens_cast k after) (has (infix_of c) || has (sign_of c))
+is_operator c k after =
+    cond (same (Mark mark.OpenParen) c) (opens_cast k after) (has (infix_of c) || has (sign_of c))
 
 -- how many operators the expression or the test has so far
 abbrev pub operators_after : ℕ → Class → List Symbol → List Token → ℕ
@@ -33,7 +34,8 @@ most_operators = 256
 
 -- the token opens a level too many, or is an operator too many
 abbrev pub is_too_deep : ℕ → ℕ → Class → List Symbol → List Token → Bool
-is_too_deep d n c k after = (is_opening c && nat_le most_open d) || (is_operator c k after && nat_le most_operators n)
+is_too_deep d n c k after =
+    (is_opening c && nat_le most_open d) || (is_operator c k after && nat_le most_operators n)
 
 pub data Outcome : Type 0 where
   Ended : (rest : List Token) → Outcome
@@ -50,5 +52,6 @@ walk k d n [] = stop (all_end k) []
 walk k d n (t ∷ ts) =
     elim (next k t.class) [
       | None ↦ stop (all_end k) (t ∷ ts)
-      | Some j ↦ cond (is_too_deep d n t.class j ts) (TooDeep (t ∷ ts)) (walk j (level_after d t.class) (operators_after n t.class j ts) ts)
+      | Some j ↦ cond (is_too_deep d n t.class j ts) (TooDeep (t ∷
+          ts)) (walk j (level_after d t.class) (operators_after n t.class j ts) ts)
     ]

@@ -21,7 +21,8 @@ abbrev pub CountsStay : (List ℕ → ℕ) → (List ℕ → ℕ) → Type 0
 CountsStay faults faults' = (other : List ℕ) → faults' other ≡ faults other
 
 -- What calls of one name leave: the told bytes, each count of another name, and no count falls.
-pub record Keeps (known : List (List ℕ)) (told told' : List ℕ → Option (List ℕ)) (faults faults' : List ℕ → ℕ) (name : List ℕ) : Type 0 where
+pub record Keeps (known : List (List ℕ)) (told told' : List ℕ →
+    Option (List ℕ)) (faults faults' : List ℕ → ℕ) (name : List ℕ) : Type 0 where
   pub same : (other : List ℕ) → told' other ≡ told other
   pub later : (other : List ℕ) → faults other ≤ faults' other
   pub apart : (other : List ℕ) → CountsApart known name other → faults' other ≡ faults other

@@ -20,7 +20,8 @@ file_count files others name = count_of (file_names files) (file_counts files) o
 -- the bytes of the first entry of a name
 abbrev pub bytes_of : List MemFile → List ℕ → Option (List ℕ)
 bytes_of [] name = None
-bytes_of (f ∷ fs) name = cond (bytes_eq (string_bytes f.name) name) (Some f.bytes.items) (bytes_of fs name)
+bytes_of (f ∷ fs) name =
+    cond (bytes_eq (string_bytes f.name) name) (Some f.bytes.items) (bytes_of fs name)
 
 abbrev pub mem_known : MemFiles → List (List ℕ)
 mem_known m = file_names m.files.items
@@ -82,4 +83,5 @@ pub record IsSinkSetUp (s : MemSink) (piece : ℕ) (fail : List ℕ) (calls spac
   pub space_is : length s.space.items ≡ space
 
 abbrev pub SinkCallsOn : MemSink → MemSink → Type 0
-SinkCallsOn old new = IsSinkSetUp new old.piece old.fail.items (next_number old.calls) (length old.space.items)
+SinkCallsOn old new =
+    IsSinkSetUp new old.piece old.fail.items (next_number old.calls) (length old.space.items)

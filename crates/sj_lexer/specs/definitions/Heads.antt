@@ -25,7 +25,9 @@ is_line_end b = b == 10
 -- how many bytes there are up to and with the first `*/`
 abbrev pub comment_end : List ℕ → Option ℕ
 comment_end [] = None
-comment_end (b ∷ bs) = cond (starts_with ◌==◌ (b ∷ bs) (codes "*/")) (Some 2) (option_map (λ n. n + 1) (comment_end bs))
+comment_end (b ∷ bs) =
+    cond (starts_with ◌==◌ (b ∷
+    bs) (codes "*/")) (Some 2) (option_map (λ n. n + 1) (comment_end bs))
 
 -- behind `/*`
 abbrev pub comment : Option ℕ → Head
@@ -38,7 +40,8 @@ most_name_bytes = 64
 -- a reserved word, or a name: its 65th byte is refused
 abbrev pub word : Option Word → ℕ → Head
 word (Some w) bytes = Lexeme (Reserved w) bytes
-word None bytes = cond (nat_le bytes most_name_bytes) (Lexeme Name bytes) (Bad fault.BadByte most_name_bytes)
+word None bytes =
+    cond (nat_le bytes most_name_bytes) (Lexeme Name bytes) (Bad fault.BadByte most_name_bytes)
 
 abbrev pub number : Option Class → ℕ → Head
 number (Some c) bytes = Lexeme c bytes
@@ -55,7 +58,9 @@ sign None = Bad fault.BadByte 0
 -- a run of letters, digits and `_`
 abbrev pub run : List ℕ → Head
 run [] = AtEnd
-run (b ∷ bs) = cond (is_letter b) (word (reserved_word (b ∷ bs)) (length (b ∷ bs))) (number (number_class (b ∷ bs)) (length (b ∷ bs)))
+run (b ∷ bs) =
+    cond (is_letter b) (word (reserved_word (b ∷ bs)) (length (b ∷ bs))) (number (number_class (b ∷
+    bs)) (length (b ∷ bs)))
 
 -- what isn't white space and begins no comment
 abbrev pub lexeme : ℕ → List ℕ → Head
@@ -67,6 +72,7 @@ abbrev pub head : List ℕ → Head
 head [] = AtEnd
 head (b ∷ bs) =
     cond (is_white b) (Between (prefix_len is_white (b ∷ bs)))
-    (cond (starts_with ◌==◌ (b ∷ bs) (codes "//")) (Between (prefix_len (λ c. not (is_line_end c)) (b ∷ bs)))
+    (cond (starts_with ◌==◌ (b ∷
+    bs) (codes "//")) (Between (prefix_len (λ c. not (is_line_end c)) (b ∷ bs)))
     (cond (starts_with ◌==◌ (b ∷ bs) (codes "/*")) (comment (comment_end (drop 1 bs)))
     (lexeme b bs)))

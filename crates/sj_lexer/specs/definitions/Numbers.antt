@@ -43,7 +43,8 @@ decimal_class is_long n =
 abbrev pub hexadecimal_class : Bool → ℕ → Option Class
 hexadecimal_class is_long n =
     cond (nat_lt n (edge_of is_long)) (Some (literal is_long (pos n)))
-    (cond (nat_lt n (2 * edge_of is_long)) (Some (literal is_long (negsuc (2 * edge_of is_long - 1 - n)))) None)
+    (cond (nat_lt n (2 * edge_of is_long))
+    (Some (literal is_long (negsuc (2 * edge_of is_long - 1 - n)))) None)
 
 abbrev pub if_spelled : Bool → Option Class → Option Class
 if_spelled spelled class = cond spelled class None
@@ -51,7 +52,9 @@ if_spelled spelled class = cond spelled class None
 -- after `0`: nothing, or `x` or `X` and hexadecimal digits
 abbrev pub after_zero : Bool → List ℕ → Option Class
 after_zero is_long [] = decimal_class is_long 0
-after_zero is_long (b ∷ bs) = if_spelled (((b == 120) || (b == 88)) && is_spelled 16 bs) (hexadecimal_class is_long (number_from 16 0 bs))
+after_zero is_long (b ∷ bs) =
+    if_spelled (((b == 120) || (b == 88)) &&
+    is_spelled 16 bs) (hexadecimal_class is_long (number_from 16 0 bs))
 
 -- a number without a mark of `long` behind it: decimal digits with no 0 before others, or a hexadecimal number
 abbrev pub unmarked_class : Bool → List ℕ → Option Class
@@ -70,4 +73,5 @@ last_of w = get_or w (length w - 1) 0
 -- a number, which `L` or `l` behind it makes `long`
 abbrev pub number_class : List ℕ → Option Class
 number_class w =
-    cond ((last_of w == 76) || (last_of w == 108)) (unmarked_class true (but_last w)) (unmarked_class false w)
+    cond ((last_of w == 76) ||
+    (last_of w == 108)) (unmarked_class true (but_last w)) (unmarked_class false w)

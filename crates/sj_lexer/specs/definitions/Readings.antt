@@ -16,7 +16,8 @@ pub data Piece : Type 0 where
 abbrev pub Leads : List ℕ → List Piece → List ℕ → Type 0
 Leads bytes [] rest = bytes ≡ rest
 Leads bytes (Gap n ∷ pieces) rest = (head bytes ≡ Between n) × Leads (drop n bytes) pieces rest
-Leads bytes (Text class n ∷ pieces) rest = (head bytes ≡ Lexeme class n) × Leads (drop n bytes) pieces rest
+Leads bytes (Text class n ∷ pieces) rest =
+    (head bytes ≡ Lexeme class n) × Leads (drop n bytes) pieces rest
 
 abbrev pub bytes_of : Piece → ℕ
 bytes_of (Gap n) = n
@@ -30,7 +31,8 @@ bytes_in (piece ∷ pieces) = bytes_of piece + bytes_in pieces
 abbrev pub tokens_from : ℕ → List Piece → List Token
 tokens_from at [] = []
 tokens_from at (Gap n ∷ pieces) = tokens_from (at + n) pieces
-tokens_from at (Text class n ∷ pieces) = record { class = class; start = at; end = at + n } ∷ tokens_from (at + n) pieces
+tokens_from at (Text class n ∷ pieces) =
+    record { class = class; start = at; end = at + n } ∷ tokens_from (at + n) pieces
 
 -- the source is whole pieces, and these are their tokens
 pub record AreTokens (source : List ℕ) (tokens : List Token) : Type 0 where
@@ -59,4 +61,5 @@ text_of source t = take (t.end - t.start) (drop t.start source)
 -- the bytes of each token that is a name are a name
 abbrev pub HaveNames : List ℕ → List Token → Type 0
 HaveNames source [] = Unit {0}
-HaveNames source (t ∷ ts) = (t.class ≡ Name → is_name (text_of source t) ≡ true) × HaveNames source ts
+HaveNames source (t ∷ ts) =
+    (t.class ≡ Name → is_name (text_of source t) ≡ true) × HaveNames source ts

@@ -25,12 +25,14 @@ pub record PrintsUsage (words : List (List ℕ)) (old new : Option (List ℕ)) :
   pub takes : TakesMore old new usage_line
 
 -- the words order turns of which one is of no domain, and the sink took the line that says so
-pub record PrintsMisfit (words : List (List ℕ)) (told : List ℕ → Option (List ℕ)) (old new : Option (List ℕ)) : Type 0 where
+pub record PrintsMisfit (words : List (List ℕ)) (told : List ℕ →
+    Option (List ℕ)) (old new : Option (List ℕ)) : Type 0 where
   pub orders : OrdersSuch words told IsMisfit
   pub takes : TakesMore old new misfit_line
 
 -- the words order such a run, and the sink took its line
-pub record PrintsWeight (words : List (List ℕ)) (told : List ℕ → Option (List ℕ)) (old new : Option (List ℕ)) : Type 0 where
+pub record PrintsWeight (words : List (List ℕ)) (told : List ℕ →
+    Option (List ℕ)) (old new : Option (List ℕ)) : Type 0 where
   pub weight : ℕ
   pub orders : OrdersSuch words told (λ bytes turns. IsOverweight bytes turns weight)
   pub takes : TakesMore old new (overweight_line weight)
@@ -54,7 +56,8 @@ CountsShow cause faults faults' NoMemory = CountsStay faults faults'
 CountsShow cause faults faults' (Overweight weight) = CountsStay faults faults'
 
 -- the sink took a prefix of the text that some answer to the words has, and the files' counts fit that answer
-pub record BeginsAnswer (words : List (List ℕ)) (told : List ℕ → Option (List ℕ)) (faults faults' : List ℕ → ℕ) (old new : Option (List ℕ)) : Type 0 where
+pub record BeginsAnswer (words : List (List ℕ)) (told : List ℕ →
+    Option (List ℕ)) (faults faults' : List ℕ → ℕ) (old new : Option (List ℕ)) : Type 0 where
   pub outcome : CommandOutcome
   pub text : List ℕ
   pub is : IsAnswer words told outcome text

@@ -17,7 +17,9 @@ most_turns = 100000
 -- is above the limit
 abbrev pub number_from : ℕ → ℕ → List ℕ → Option ℕ
 number_from limit n [] = Some n
-number_from limit n (b ∷ bs) = cond (is_digit b && nat_le (n * 10 + (b - 48)) limit) (number_from limit (n * 10 + (b - 48)) bs) None
+number_from limit n (b ∷ bs) =
+    cond (is_digit b &&
+    nat_le (n * 10 + (b - 48)) limit) (number_from limit (n * 10 + (b - 48)) bs) None
 
 -- the number that a word is in decimal, with no zero before it, where it is within the limit
 abbrev pub whole_number : ℕ → List ℕ → Option ℕ
@@ -75,7 +77,8 @@ FitDomains (Each turns) domains = All (λ t. t < domains) turns
 
 -- the budget of each of so many domains is how many turns it has
 abbrev pub budgets_for : Turns → ℕ → List ℕ
-budgets_for turns domains = map (λ d. turns_of d (turns_for turns domains)) (range_with_len 0 domains)
+budgets_for turns domains =
+    map (λ d. turns_of d (turns_for turns domains)) (range_with_len 0 domains)
 
 -- `order FILE TURNS -`
 pub record IsOrder (words : List (List ℕ)) (file : List ℕ) (turns : Turns) : Type 0 where

@@ -5,4 +5,5 @@ use Rattle.sj_accept.specs.definitions.Programs.{LoweredProgram, domain_statemen
 
 -- the program with these inputs
 abbrev pub program_setup : LoweredProgram → Inputs → Setup
-program_setup p inputs = record { tables = p.tables; statements = domain_statements p; inputs = inputs }
+program_setup p inputs =
+    record { tables = p.tables; statements = domain_statements p; inputs = inputs }

@@ -23,7 +23,9 @@ abbrev pub channel_weight : List ℕ → ChannelInfo → ℕ
 channel_weight budgets c = end_weight budgets c.sender + end_weight budgets c.receiver
 
 abbrev pub run_weight : Tables → List ℕ → ℕ
-run_weight t budgets = sum_by (domain_weight t budgets) (range_with_len 0 (length budgets)) + sum_by (channel_weight budgets) t.channels
+run_weight t budgets =
+    sum_by (domain_weight t budgets) (range_with_len 0 (length budgets)) + sum_by
+    (channel_weight budgets) t.channels
 
 abbrev pub domain_count_of : LoweredProgram → ℕ
 domain_count_of p = length (domain_statements p)

@@ -23,7 +23,8 @@ use Rattle.sj_main.specs.definitions.Commands.{FitDomains, IsOrder, IsNoCommand}
 use Rattle.sj_main.specs.definitions.RunWeight.{most_run_weight, domain_count_of, turns_of_program, run_weight_of}
 
 abbrev pub usage_line : List ℕ
-usage_line = codes "usage: check FILE | order FILE TURNS INPUTS | run FILE TICKS INPUTS | verify FILE TICKS INPUTS RUN | gen NUMBER TICKS\n"
+usage_line =
+    codes "usage: check FILE | order FILE TURNS INPUTS | run FILE TICKS INPUTS | verify FILE TICKS INPUTS RUN | gen NUMBER TICKS\n"
 
 abbrev pub misfit_line : List ℕ
 misfit_line = codes "domains do not fit\n"
@@ -79,14 +80,16 @@ pub record IsTextOfRun (bytes : List ℕ) (turns : Turns) (text : List ℕ) : Ty
   pub can : CanRun program turns
   pub run : RunState
   pub last : SystemState
-  pub scheduled : IsScheduledRun (program_setup program no_inputs) run (turns_of_program program turns) last
+  pub scheduled : IsScheduledRun (program_setup program no_inputs) run
+      (turns_of_program program turns) last
   pub whole : IsWholeRun (program_setup program no_inputs) run (turns_of_program program turns)
   pub is : text ≡ run_text program.tables run
 
 -- the first check that fails refuses the bytes with this line
 pub data IsRefusal (bytes text : List ℕ) : Type 0 where
   ForSize : most_source_bytes < length bytes → text ≡ size_line → IsRefusal bytes text
-  ForReason : (reason : Refusal) → length bytes ≤ most_source_bytes → IsRefusedFor bytes reason → text ≡ refusal_line reason → IsRefusal bytes text
+  ForReason : (reason : Refusal) → length bytes ≤ most_source_bytes → IsRefusedFor bytes reason →
+      text ≡ refusal_line reason → IsRefusal bytes text
 
 -- a turn is one of no domain of the bytes' program
 pub record IsMisfit (bytes : List ℕ) (turns : Turns) : Type 0 where
@@ -103,7 +106,8 @@ pub record IsOverweight (bytes : List ℕ) (turns : Turns) (weight : ℕ) : Type
   pub above : most_run_weight < weight
 
 -- the words order a file, of whose bytes this holds where they are told
-pub record OrdersSuch (words : List (List ℕ)) (told : List ℕ → Option (List ℕ)) (P : List ℕ → Turns → Type 0) : Type 0 where
+pub record OrdersSuch (words : List (List ℕ)) (told : List ℕ → Option (List ℕ)) (P : List ℕ →
+    Turns → Type 0) : Type 0 where
   pub file : List ℕ
   pub turns : Turns
   pub command : IsOrder words file turns
@@ -124,12 +128,17 @@ abbrev pub IsOrderAnswer : Option (List ℕ) → Turns → CommandOutcome → Li
 IsOrderAnswer told turns Done text = IfSome told (λ bytes. IsTextOfRun bytes turns text)
 IsOrderAnswer told turns Refused text = IfSome told (λ bytes. IsRefusal bytes text)
 IsOrderAnswer told turns NoCommand text = ⊥
-IsOrderAnswer told turns Misfit text = IfSome told (λ bytes. IsMisfit bytes turns) × (text ≡ misfit_line)
+IsOrderAnswer told turns Misfit text =
+    IfSome told (λ bytes. IsMisfit bytes turns) × (text ≡ misfit_line)
 IsOrderAnswer told turns ReadFault text = text ≡ codes "read fault\n"
 IsOrderAnswer told turns NoMemory text = text ≡ codes "no memory\n"
-IsOrderAnswer told turns (Overweight weight) text = IfSome told (λ bytes. IsOverweight bytes turns weight) × (text ≡ overweight_line weight)
+IsOrderAnswer told turns (Overweight weight) text =
+    IfSome told (λ bytes. IsOverweight bytes turns weight) × (text ≡ overweight_line weight)
 
 -- the text of each answer to the words
-pub data IsAnswer (words : List (List ℕ)) (told : List ℕ → Option (List ℕ)) (outcome : CommandOutcome) (text : List ℕ) : Type 0 where
-  ToNoCommand : IsNoCommand words → outcome ≡ NoCommand → text ≡ usage_line → IsAnswer words told outcome text
-  ToOrder : (file : List ℕ) (turns : Turns) → IsOrder words file turns → IsOrderAnswer (told file) turns outcome text → IsAnswer words told outcome text
+pub data IsAnswer (words : List (List ℕ)) (told : List ℕ →
+    Option (List ℕ)) (outcome : CommandOutcome) (text : List ℕ) : Type 0 where
+  ToNoCommand : IsNoCommand words → outcome ≡ NoCommand → text ≡ usage_line →
+      IsAnswer words told outcome text
+  ToOrder : (file : List ℕ) (turns : Turns) → IsOrder words file turns →
+      IsOrderAnswer (told file) turns outcome text → IsAnswer words told outcome text

@@ -64,7 +64,14 @@ sort_of direction.Input = sort.Input
 sort_of direction.Output = sort.Output
 
 abbrev pub signal_info : Sort → ℕ → Signal Name → SignalInfo
-signal_info s domain signal = record { name = signal.name.text; domain = domain; sort = s; kind = kind_of signal.valued; combine = combine_of signal.valued }
+signal_info s domain signal =
+    record {
+      name = signal.name.text;
+      domain = domain;
+      sort = s;
+      kind = kind_of signal.valued;
+      combine = combine_of signal.valued;
+    }
 
 -- the first domain that uses the number so, or domain 0
 abbrev pub first_domain : List (List Mention) → Use → ℕ → ℕ
@@ -73,7 +80,9 @@ first_domain domains u n = unwrap_or (first_with (uses u n) 0 domains) 0
 -- the signals of an interface, from the number n on
 abbrev pub port_signals : List (List Mention) → ℕ → List (Port Name) → List SignalInfo
 port_signals domains n [] = []
-port_signals domains n (port.Signal p ∷ ps) = signal_info (sort_of p.direction) (first_domain domains way.PortSignal n) p.signal ∷ port_signals domains (suc n) ps
+port_signals domains n (port.Signal p ∷ ps) =
+    signal_info (sort_of p.direction) (first_domain domains way.PortSignal n) p.signal ∷
+    port_signals domains (suc n) ps
 port_signals domains n (port.Channel c ∷ ps) = port_signals domains n ps
 
 -- the channels of an interface, from the number n on
@@ -81,7 +90,12 @@ abbrev pub port_channels : List (List Mention) → ℕ → List (Port Name) → 
 port_channels domains n [] = []
 port_channels domains n (port.Signal p ∷ ps) = port_channels domains n ps
 port_channels domains n (port.Channel c ∷ ps) =
-    record { name = c.name.text; kind = c.kind; sender = first_domain domains way.SendingEnd n; receiver = first_domain domains way.ReceivingEnd n } ∷ port_channels domains (suc n) ps
+    record {
+      name = c.name.text;
+      kind = c.kind;
+      sender = first_domain domains way.SendingEnd n;
+      receiver = first_domain domains way.ReceivingEnd n;
+    } ∷ port_channels domains (suc n) ps
 
 -- what the statements of a domain declare, in order
 pub record Declared : Type 0 where
@@ -103,8 +117,10 @@ where_given None = nothing
 where_given (Some d) = d
 
 abbrev pub declared_form_layer : ℕ → Form-F Name (Raw Name) Declared Declared Declared → Declared
-declared_form_layer domain (Form-F.Declare signal) = record { signals = signal_info sort.Local domain signal ∷ []; variables = [] }
-declared_form_layer domain (Form-F.Variable k at name value) = record { signals = []; variables = record { domain = domain; kind = k } ∷ [] }
+declared_form_layer domain (Form-F.Declare signal) =
+    record { signals = signal_info sort.Local domain signal ∷ []; variables = [] }
+declared_form_layer domain (Form-F.Variable k at name value) =
+    record { signals = []; variables = record { domain = domain; kind = k } ∷ [] }
 declared_form_layer domain (Form-F.Par first others) = both first (all others)
 declared_form_layer domain (Form-F.If cond first other) = both first (where_given other)
 declared_form_layer domain (Form-F.Present test first other) = both first (where_given other)
@@ -123,13 +139,19 @@ abbrev pub declared_stmt_layer : Stmt-F Name (Raw Name) Declared Declared Declar
 declared_stmt_layer s = s.form
 
 abbrev pub declared_form : ℕ → Form Name (Raw Name) → Declared
-declared_form domain = fold-Form Name (Raw Name) Declared Declared Declared (declared_form_layer domain) declared_block_layer declared_stmt_layer
+declared_form domain =
+    fold-Form Name (Raw Name) Declared Declared Declared (declared_form_layer domain)
+    declared_block_layer declared_stmt_layer
 
 abbrev pub declared_block : ℕ → Block Name (Raw Name) → Declared
-declared_block domain = fold-Block Name (Raw Name) Declared Declared Declared (declared_form_layer domain) declared_block_layer declared_stmt_layer
+declared_block domain =
+    fold-Block Name (Raw Name) Declared Declared Declared (declared_form_layer domain)
+    declared_block_layer declared_stmt_layer
 
 abbrev pub declared_stmt : ℕ → Stmt Name (Raw Name) → Declared
-declared_stmt domain = fold-Stmt Name (Raw Name) Declared Declared Declared (declared_form_layer domain) declared_block_layer declared_stmt_layer
+declared_stmt domain =
+    fold-Stmt Name (Raw Name) Declared Declared Declared (declared_form_layer domain)
+    declared_block_layer declared_stmt_layer
 
 abbrev pub declared_other : ℕ → Option (Block Name (Raw Name)) → Declared
 declared_other domain None = nothing
@@ -142,7 +164,9 @@ declared_domains domain (b ∷ bs) = both (declared_block domain b) (declared_do
 
 abbrev pub tables_of_tree : Tree Name (Raw Name) → Tables
 tables_of_tree tree = record {
-  signals = port_signals (names_of_tree tree).domains 0 tree.ports ++ (declared_domains 0 tree.domains).signals;
+  signals =
+      port_signals (names_of_tree tree).domains 0 tree.ports ++
+      (declared_domains 0 tree.domains).signals;
   channels = port_channels (names_of_tree tree).domains 0 tree.ports;
   variables = (declared_domains 0 tree.domains).variables;
 }

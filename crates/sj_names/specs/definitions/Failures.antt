@@ -68,7 +68,9 @@ is_emission _ = false
 -- the failures of a name by itself
 
 abbrev pub use_failures : Role → ℕ → Meaning → List Failure
-use_failures r at m = cond (fits r m.sort) (where_true (is_emission r && is_input m.sort) (failure_at fault.EmitInput at)) (failure_at fault.Unknown at ∷ [])
+use_failures r at m =
+    cond (fits r m.sort) (where_true (is_emission r &&
+    is_input m.sort) (failure_at fault.EmitInput at)) (failure_at fault.Unknown at ∷ [])
 
 abbrev pub role_failures : Role → ℕ → Option Meaning → List Failure
 role_failures (role.Declare s) at None = []
@@ -120,28 +122,39 @@ uses u n = list_any (λ m. is_number n (number_in u m))
 -- an earlier domain mentions the signal
 abbrev pub shared_failure : List (List Mention) → ℕ → Option ℕ → List Failure
 shared_failure earlier at None = []
-shared_failure earlier at (Some n) = where_true (list_any (uses way.PortSignal n) earlier) (failure_at fault.SignalShared at)
+shared_failure earlier at (Some n) =
+    where_true (list_any (uses way.PortSignal n) earlier) (failure_at fault.SignalShared at)
 
 abbrev pub shared_failures : (earlier domains : List (List Mention)) → List Failure
 shared_failures earlier [] = []
-shared_failures earlier (d ∷ ds) = flat_map (λ m. shared_failure earlier m.at (number_in way.PortSignal m)) d ++ shared_failures (earlier ++ d ∷ []) ds
+shared_failures earlier (d ∷ ds) =
+    flat_map (λ m. shared_failure earlier m.at (number_in way.PortSignal m)) d ++
+    shared_failures (earlier ++ d ∷ []) ds
 
 -- an earlier domain uses this end of the channel, or this domain uses the other end before
-abbrev pub end_failure : (this other : Use) → List (List Mention) → List Mention → ℕ → Option ℕ → List Failure
+abbrev pub end_failure : (this other : Use) → List (List Mention) → List Mention → ℕ → Option ℕ →
+    List Failure
 end_failure this other earlier before at None = []
-end_failure this other earlier before at (Some c) = where_true (list_any (uses this c) earlier || uses other c before) (failure_at fault.ChannelEnds at)
+end_failure this other earlier before at (Some c) =
+    where_true (list_any (uses this c) earlier ||
+    uses other c before) (failure_at fault.ChannelEnds at)
 
 abbrev pub both_end_failures : List (List Mention) → List Mention → Mention → List Failure
 both_end_failures earlier before m =
-    end_failure way.SendingEnd way.ReceivingEnd earlier before m.at (number_in way.SendingEnd m) ++ end_failure way.ReceivingEnd way.SendingEnd earlier before m.at (number_in way.ReceivingEnd m)
+    end_failure way.SendingEnd way.ReceivingEnd earlier before m.at (number_in way.SendingEnd m) ++
+    end_failure way.ReceivingEnd way.SendingEnd earlier before m.at
+    (number_in way.ReceivingEnd m)
 
-abbrev pub domain_end_failures : List (List Mention) → (before mentions : List Mention) → List Failure
+abbrev pub domain_end_failures : List (List Mention) → (before mentions : List Mention) →
+    List Failure
 domain_end_failures earlier before [] = []
-domain_end_failures earlier before (m ∷ ms) = both_end_failures earlier before m ++ domain_end_failures earlier (before ++ m ∷ []) ms
+domain_end_failures earlier before (m ∷ ms) =
+    both_end_failures earlier before m ++ domain_end_failures earlier (before ++ m ∷ []) ms
 
 abbrev pub end_failures : (earlier domains : List (List Mention)) → List Failure
 end_failures earlier [] = []
-end_failures earlier (d ∷ ds) = domain_end_failures earlier [] d ++ end_failures (earlier ++ d ∷ []) ds
+end_failures earlier (d ∷ ds) =
+    domain_end_failures earlier [] d ++ end_failures (earlier ++ d ∷ []) ds
 
 -- declared names
 
@@ -158,13 +171,16 @@ is_new test _ _ = false
 -- the places of the names that are declared as such a sort
 abbrev pub places_of : (Sort → Bool) → List Mention → List ℕ
 places_of test [] = []
-places_of test (m ∷ ms) = cond (is_new test m.role m.meaning) (m.at ∷ places_of test ms) (places_of test ms)
+places_of test (m ∷ ms) =
+    cond (is_new test m.role m.meaning) (m.at ∷ places_of test ms) (places_of test ms)
 
 -- a channel that no `send` or no `receive` uses, from the channel of this number on
 abbrev pub unjoined_failures : List (List Mention) → ℕ → List ℕ → List Failure
 unjoined_failures domains c [] = []
 unjoined_failures domains c (at ∷ places) =
-    where_true (not (list_any (uses way.SendingEnd c) domains && list_any (uses way.Receive c) domains)) (failure_at fault.ChannelEnds at) ++ unjoined_failures domains (suc c) places
+    where_true (not (list_any (uses way.SendingEnd c) domains &&
+    list_any (uses way.Receive c) domains)) (failure_at fault.ChannelEnds at) ++
+    unjoined_failures domains (suc c) places
 
 -- the first place behind so many
 abbrev pub first_failure : List ℕ → List Failure
@@ -186,16 +202,23 @@ owner_of domains n = unwrap_or (first_with (uses way.PortSignal n) 0 domains) 0
 -- the places of the interface signals of a domain, from the signal of this number on
 abbrev pub owned_places : List (List Mention) → ℕ → ℕ → List ℕ → List ℕ
 owned_places domains d n [] = []
-owned_places domains d n (at ∷ places) = cond (owner_of domains n == d) (at ∷ owned_places domains d (suc n) places) (owned_places domains d (suc n) places)
+owned_places domains d n (at ∷ places) =
+    cond (owner_of domains n == d) (at ∷
+    owned_places domains d (suc n) places) (owned_places domains d (suc n) places)
 
 -- the limits of one domain, to which these interface signals belong
 abbrev pub limit_failures : List ℕ → List Mention → List Failure
-limit_failures owned ms = too_many most_signals (owned ++ places_of is_signal ms) ++ too_many most_variables (places_of is_variable ms)
+limit_failures owned ms =
+    too_many most_signals (owned ++ places_of is_signal ms) ++
+    too_many most_variables (places_of is_variable ms)
 
 -- those of the domains from a number on, where the interface signals are declared at these places
-abbrev pub domain_limit_failures : (domains : List (List Mention)) → List ℕ → ℕ → List (List Mention) → List Failure
+abbrev pub domain_limit_failures : (domains : List (List Mention)) → List ℕ → ℕ →
+    List (List Mention) → List Failure
 domain_limit_failures domains places d [] = []
-domain_limit_failures domains places d (ms ∷ rest) = limit_failures (owned_places domains d 0 places) ms ++ domain_limit_failures domains places (suc d) rest
+domain_limit_failures domains places d (ms ∷ rest) =
+    limit_failures (owned_places domains d 0 places) ms ++
+    domain_limit_failures domains places (suc d) rest
 
 -- all failures of the names of a tree
 abbrev pub failures_of : TreeNames → List Failure
@@ -207,7 +230,8 @@ failures_of names =
     ++ (unjoined_failures names.domains 0 (places_of is_channel names.ports)
     ++ (too_many most_domains names.places
     ++ (too_many most_channels (places_of is_channel names.ports)
-    ++ domain_limit_failures names.domains (places_of is_port_signal names.ports) 0 names.domains))))))
+    ++ domain_limit_failures names.domains (places_of is_port_signal names.ports) 0
+    names.domains))))))
 
 -- the order of failures
 

@@ -90,23 +90,35 @@ module _ (t : Tables) {E : Type 0} (rules : ValueRules E) where
   form_fits (Form-F.Par first others) a = alone ((first a).fits && blocks_fit others a) a
   form_fits Form-F.Pause a = alone true a
   form_fits Form-F.Halt a = alone true a
-  form_fits (Form-F.Emit at s value) a = alone (can_emit t (scope_of a) s && rules.emitted (scope_of a) (signal_at t s).kind value) a
-  form_fits (Form-F.Sustain at s value) a = alone (can_emit t (scope_of a) s && rules.emitted (scope_of a) (signal_at t s).kind value) a
-  form_fits (Form-F.Declare signal) a = record { fits = is_local_of t a.domain signal.name; around = with_local signal.name a }
-  form_fits (Form-F.Variable k at x value) a = alone (is_declared_variable t a.domain k x && rules.given (scope_of a) k value) a
-  form_fits (Form-F.Assign at x value) a = alone (is_variable_of t a.domain x && rules.given (scope_of a) (variable_at t x).kind value) a
-  form_fits (Form-F.Update at x sign_at op value) a = alone (is_variable_of t a.domain x && rules.given (scope_of a) (variable_at t x).kind value) a
-  form_fits (Form-F.If cond first other) a = alone (rules.given (scope_of a) kind.Boolean cond && ((first a).fits && other_fits other a)) a
-  form_fits (Form-F.Present test first other) a = alone (fits_test t (scope_of a) test && ((first a).fits && other_fits other a)) a
+  form_fits (Form-F.Emit at s value) a =
+      alone (can_emit t (scope_of a) s && rules.emitted (scope_of a) (signal_at t s).kind value) a
+  form_fits (Form-F.Sustain at s value) a =
+      alone (can_emit t (scope_of a) s && rules.emitted (scope_of a) (signal_at t s).kind value) a
+  form_fits (Form-F.Declare signal) a =
+      record { fits = is_local_of t a.domain signal.name; around = with_local signal.name a }
+  form_fits (Form-F.Variable k at x value) a =
+      alone (is_declared_variable t a.domain k x && rules.given (scope_of a) k value) a
+  form_fits (Form-F.Assign at x value) a =
+      alone (is_variable_of t a.domain x && rules.given (scope_of a) (variable_at t x).kind value) a
+  form_fits (Form-F.Update at x sign_at op value) a =
+      alone (is_variable_of t a.domain x && rules.given (scope_of a) (variable_at t x).kind value) a
+  form_fits (Form-F.If cond first other) a =
+      alone (rules.given (scope_of a) kind.Boolean cond && ((first a).fits && other_fits other a)) a
+  form_fits (Form-F.Present test first other) a =
+      alone (fits_test t (scope_of a) test && ((first a).fits && other_fits other a)) a
   form_fits (Form-F.While body) a = alone (body a).fits a
-  form_fits (Form-F.Abort weak immediate test body) a = alone (fits_test t (scope_of a) test && (body a).fits) a
-  form_fits (Form-F.Suspend immediate test body) a = alone (fits_test t (scope_of a) test && (body a).fits) a
+  form_fits (Form-F.Abort weak immediate test body) a =
+      alone (fits_test t (scope_of a) test && (body a).fits) a
+  form_fits (Form-F.Suspend immediate test body) a =
+      alone (fits_test t (scope_of a) test && (body a).fits) a
   form_fits (Form-F.Trap at n body) a = alone (body (in_trap n a)).fits a
   form_fits (Form-F.Exit at n) a = alone (stands_in n a.traps) a
-  form_fits (Form-F.Send at c value) a = alone (is_sender_of t a.domain c && rules.given (scope_of a) (channel_at t c).kind value) a
+  form_fits (Form-F.Send at c value) a =
+      alone (is_sender_of t a.domain c && rules.given (scope_of a) (channel_at t c).kind value) a
   form_fits (Form-F.Receive at c) a = alone (is_receiver_of t a.domain c) a
   form_fits (Form-F.Await immediate test) a = alone (fits_test t (scope_of a) test) a
-  form_fits (Form-F.Every immediate test body) a = alone (fits_test t (scope_of a) test && (body a).fits) a
+  form_fits (Form-F.Every immediate test body) a =
+      alone (fits_test t (scope_of a) test && (body a).fits) a
   form_fits (Form-F.Loop body test) a = alone ((body a).fits && fits_test t (scope_of a) test) a
 
   abbrev pub block_fits : Block-F ℕ E Part Part Part → Part
@@ -157,4 +169,8 @@ value_uses_entries t scope None = true
 value_uses_entries t scope (Some e) = uses_entries t scope e
 
 abbrev pub entry_rules : Tables → ValueRules (Raw Entry)
-entry_rules t = record { emitted = λ scope k value. value_uses_entries t scope value; given = λ scope k e. uses_entries t scope e }
+entry_rules t =
+    record {
+      emitted = λ scope k value. value_uses_entries t scope value;
+      given = λ scope k e. uses_entries t scope e;
+    }

@@ -34,7 +34,8 @@ abbrev pub Part : Type 0
 Part = Scope → Told
 
 abbrev pub mention : Role → Name → Scope → Mention
-mention r name scope = record { at = name.at; role = r; meaning = meaning_in scope.visible name.text }
+mention r name scope =
+    record { at = name.at; role = r; meaning = meaning_in scope.visible name.text }
 
 -- no name
 abbrev pub silent : Part
@@ -46,7 +47,8 @@ told mentions scope = record { scope = scope; mentions = mentions scope }
 
 -- what a part tells behind another
 abbrev pub behind : Told → Part → Told
-behind t part = record { scope = (part t.scope).scope; mentions = t.mentions ++ (part t.scope).mentions }
+behind t part =
+    record { scope = (part t.scope).scope; mentions = t.mentions ++ (part t.scope).mentions }
 
 abbrev pub then : Part → Part → Part
 then first second scope = behind (first scope) second
@@ -61,13 +63,21 @@ where_given (Some part) = part
 
 -- what is declared in a part is visible up to its end
 abbrev pub closed : Part → Part
-closed part scope = record { scope = closed_at (length scope.visible) (part scope).scope; mentions = (part scope).mentions }
+closed part scope =
+    record {
+      scope = closed_at (length scope.visible) (part scope).scope;
+      mentions = (part scope).mentions;
+    }
 
 abbrev pub mentioned : Role → Name → Part
 mentioned r name = told (λ scope. mention r name scope ∷ [])
 
 abbrev pub declared : Sort → Name → Part
-declared s name scope = record { scope = declare s name.text scope; mentions = mention (role.Declare s) name scope ∷ [] }
+declared s name scope =
+    record {
+      scope = declare s name.text scope;
+      mentions = mention (role.Declare s) name scope ∷ [];
+    }
 
 -- the names of an expression
 abbrev pub raw_layer : Raw-F Name (Scope → List Mention) → Scope → List Mention
@@ -116,12 +126,15 @@ form_layer Form-F.Empty = silent
 form_layer (Form-F.Par first others) = then first (in_order others)
 form_layer Form-F.Pause = silent
 form_layer Form-F.Halt = silent
-form_layer (Form-F.Emit name_at name value) = then (mentioned role.Emit name) (read_where_given value)
-form_layer (Form-F.Sustain name_at name value) = then (mentioned role.Emit name) (read_where_given value)
+form_layer (Form-F.Emit name_at name value) =
+    then (mentioned role.Emit name) (read_where_given value)
+form_layer (Form-F.Sustain name_at name value) =
+    then (mentioned role.Emit name) (read_where_given value)
 form_layer (Form-F.Declare signal) = declared sort.Local signal.name
 form_layer (Form-F.Variable kind name_at name value) = new_variable name value
 form_layer (Form-F.Assign name_at name value) = then (mentioned role.Variable name) (read value)
-form_layer (Form-F.Update name_at name sign_at op value) = then (mentioned role.Variable name) (read value)
+form_layer (Form-F.Update name_at name sign_at op value) =
+    then (mentioned role.Variable name) (read value)
 form_layer (Form-F.If cond first other) = then (read cond) (then first (where_given other))
 form_layer (Form-F.Present test first other) = then (tested test) (then first (where_given other))
 form_layer (Form-F.While body) = body
@@ -163,7 +176,8 @@ port_part (port.Channel c) = declared sort.Channel c.name
 -- the names of each domain, by rising number, in the scope before them
 abbrev pub domain_mentions : Scope → List (Block Name (Raw Name)) → List (List Mention)
 domain_mentions scope [] = []
-domain_mentions scope (b ∷ bs) = (block_part b scope).mentions ∷ domain_mentions (block_part b scope).scope bs
+domain_mentions scope (b ∷ bs) =
+    (block_part b scope).mentions ∷ domain_mentions (block_part b scope).scope bs
 
 -- the names of the interface and those of each domain, and where the `{` of each domain stands
 pub record TreeNames : Type 0 where

@@ -4,4 +4,9 @@ use Rattle.sj_names.specs.declared.program.TreeNames as read
 use Rattle.sj_names.specs.definitions.Mentions.{TreeNames}
 
 abbrev pub tree_names_of : read.TreeNames → TreeNames
-tree_names_of names = record { ports = names.ports.items; domains = map (λ mentions. mentions.items) names.domains.items; places = names.places.items }
+tree_names_of names =
+    record {
+      ports = names.ports.items;
+      domains = map (λ mentions. mentions.items) names.domains.items;
+      places = names.places.items;
+    }

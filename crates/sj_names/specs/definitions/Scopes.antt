@@ -16,7 +16,8 @@ pub record Scope : Type 0 where
   pub counts : Counts
 
 abbrev pub no_names : Scope
-no_names = record { visible = []; counts = record { signals = 0; channels = 0; variables = 0; traps = 0 } }
+no_names =
+    record { visible = []; counts = record { signals = 0; channels = 0; variables = 0; traps = 0 } }
 
 -- what a name stands for
 abbrev pub meaning_in : List Named → List ℕ → Option Meaning
@@ -33,21 +34,47 @@ count_of sort.Variable n = n.variables
 count_of sort.Trap n = n.traps
 
 abbrev pub one_signal_more : Counts → Counts
-one_signal_more n = record { signals = n.signals + 1; channels = n.channels; variables = n.variables; traps = n.traps }
+one_signal_more n =
+    record {
+      signals = n.signals + 1;
+      channels = n.channels;
+      variables = n.variables;
+      traps = n.traps;
+    }
 
 abbrev pub counted : Sort → Counts → Counts
 counted sort.Input n = one_signal_more n
 counted sort.Output n = one_signal_more n
 counted sort.Local n = one_signal_more n
-counted sort.Channel n = record { signals = n.signals; channels = n.channels + 1; variables = n.variables; traps = n.traps }
-counted sort.Variable n = record { signals = n.signals; channels = n.channels; variables = n.variables + 1; traps = n.traps }
-counted sort.Trap n = record { signals = n.signals; channels = n.channels; variables = n.variables; traps = n.traps + 1 }
+counted sort.Channel n =
+    record {
+      signals = n.signals;
+      channels = n.channels + 1;
+      variables = n.variables;
+      traps = n.traps;
+    }
+counted sort.Variable n =
+    record {
+      signals = n.signals;
+      channels = n.channels;
+      variables = n.variables + 1;
+      traps = n.traps;
+    }
+counted sort.Trap n =
+    record {
+      signals = n.signals;
+      channels = n.channels;
+      variables = n.variables;
+      traps = n.traps + 1;
+    }
 
 -- a name that is visible isn't declared again
 abbrev pub declared_where : Option Meaning → Sort → List ℕ → Scope → Scope
 declared_where (Some m) s name scope = scope
 declared_where None s name scope = record {
-  visible = scope.visible ++ record { name = name; meaning = record { sort = s; number = count_of s scope.counts } } ∷ [];
+  visible =
+      scope.visible ++
+      record { name = name; meaning = record { sort = s; number = count_of s scope.counts } } ∷ [];
   counts = counted s scope.counts;
 }
 

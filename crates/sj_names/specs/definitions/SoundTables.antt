@@ -43,7 +43,8 @@ is_sound_use t d role.Emit m = is_signal_use t d m.sort m.number && not (is_inpu
 is_sound_use t d role.Test m = is_signal_use t d m.sort m.number
 is_sound_use t d role.Send m = is_channel m.sort && is_sender_of t d m.number
 is_sound_use t d role.Receive m = is_channel m.sort && is_receiver_of t d m.number
-is_sound_use t d role.Status m = cond (is_channel m.sort) (is_receiver_of t d m.number) (is_signal_use t d m.sort m.number)
+is_sound_use t d role.Status m =
+    cond (is_channel m.sort) (is_receiver_of t d m.number) (is_signal_use t d m.sort m.number)
 is_sound_use t d role.Exit m = is_trap m.sort
 is_sound_use t d role.Variable m = is_variable m.sort && is_variable_of t d m.number
 

@@ -14,7 +14,8 @@ use Rattle.expr_parser.specs.declared.parse.ParseError.TheVariants as error
 use Rattle.expr_parser.specs.definitions.Longest.{IsLongest, place_of}
 
 -- the tokens are a program of the grammar, within the limits, and this is its tree
-pub record IsTreeOf (source : List ℕ) (tokens : List Token) (tree : Tree ast_name.Name (raw.Raw ast_name.Name)) : Type 0 where
+pub record IsTreeOf (source : List ℕ) (tokens : List Token)
+    (tree : Tree ast_name.Name (raw.Raw ast_name.Name)) : Type 0 where
   pub sentence : Program
   pub is_program : IsProgram sentence
   pub printed : print_program sentence [] ≡ tokens

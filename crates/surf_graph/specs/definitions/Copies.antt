@@ -56,12 +56,23 @@ joined s t k = s k ++ t k
 
 -- nothing is built
 abbrev pub nothing_built : Context → Copy
-nothing_built c = record { equations = []; status = 0; live = 0; emits = []; variables = c.wires.variables; sets = none; next = c.next }
+nothing_built c =
+    record {
+      equations = [];
+      status = 0;
+      live = 0;
+      emits = [];
+      variables = c.wires.variables;
+      sets = none;
+      next = c.next;
+    }
 
 -- both copies, of which at most one tells the status where the other is idle: one behind the other, or two alternatives
 abbrev pub behind : ℕ → ℕ → (ℕ → List Sets) → (ℕ → List Sets) → List Equation → Copy → Copy → Copy
 behind n live s t own a b = record {
-  equations = record { wire = n; formula = Greater a.status b.status } ∷ (own ++ (a.equations ++ b.equations));
+  equations =
+      record { wire = n; formula = Greater a.status b.status } ∷
+      (own ++ (a.equations ++ b.equations));
   status = n;
   live = live;
   emits = a.emits ++ b.emits;
@@ -83,7 +94,8 @@ both_write (x ∷ xs) ys = cond (has ys x && not (has xs x)) (x ∷ both_write x
 -- After two alternatives: one wire for each variable that both may assign, that of the second where `other` is on.
 abbrev pub joins : ℕ → ℕ → (ℕ → ℕ) → (ℕ → ℕ) → List ℕ → List Equation
 joins other n a b [] = []
-joins other n a b (x ∷ xs) = record { wire = n; formula = Choose other (b x) (a x) } ∷ joins other (n + 1) a b xs
+joins other n a b (x ∷ xs) =
+    record { wire = n; formula = Choose other (b x) (a x) } ∷ joins other (n + 1) a b xs
 
 abbrev pub join_wires : ℕ → (ℕ → ℕ) → List ℕ → ℕ → ℕ
 join_wires n v [] y = v y
@@ -99,9 +111,11 @@ wires_by xs a b x = cond (has xs x) (a x) (b x)
 
 -- Two alternatives, which may assign these variables: both are given the same wires, and at most one of them
 -- ticks, the second where `other` is on.
-abbrev pub alternatives : List ℕ → List ℕ → ℕ → ℕ → ℕ → (ℕ → List Sets) → (ℕ → List Sets) → List Equation → Copy → Copy → Copy
+abbrev pub alternatives : List ℕ → List ℕ → ℕ → ℕ → ℕ → (ℕ → List Sets) → (ℕ → List Sets) →
+    List Equation → Copy → Copy → Copy
 alternatives xs ys other n live s t own a b =
-    record (behind n live s t (own ++ joins other b.next a.variables b.variables (both_write xs ys)) a b) {
+    record (behind n live s t (own ++
+    joins other b.next a.variables b.variables (both_write xs ys)) a b) {
       variables = join_wires b.next (wires_by ys b.variables a.variables) (both_write xs ys);
       next = b.next + length (both_write xs ys);
     }
@@ -148,7 +162,12 @@ with_signal s b v w = record w { present = put_at w.present s b; value = put_at 
 
 -- around the block of a local signal: wires n and n + 1 are its presence and value
 abbrev pub local_context : Tables → ℕ → Context → Context
-local_context tables s c = record c { wires = with_signal s c.next (c.next + 1) c.wires; register = c.register + own_registers tables s; next = c.next + 6 }
+local_context tables s c =
+    record c {
+      wires = with_signal s c.next (c.next + 1) c.wires;
+      register = c.register + own_registers tables s;
+      next = c.next + 6;
+    }
 
 -- a local signal, of whose last value this is the formula
 abbrev pub local_copy : Tables → ℕ → Formula → Context → Copy → Copy
@@ -165,7 +184,12 @@ local_copy tables s last c a =
           ∷ record { wire = n + 5; formula = And c.keep c.hold }
           ∷ (folded.equations ++ a.equations);
       emits = emits_without s a.emits;
-      sets = joined (below (c.register + own_registers tables s) (λ k. record { condition = n + 4; value = n + 1 } ∷ record { condition = n + 5; value = n + 2 } ∷ [])) (from (c.register + own_registers tables s) a.sets);
+      sets =
+          joined (below (c.register + own_registers tables s) (λ k. record {
+            condition = n + 4;
+            value = n + 1;
+          } ∷ record { condition = n + 5; value = n + 2 } ∷
+          [])) (from (c.register + own_registers tables s) a.sets);
       next = a.next + length folded.equations;
     }
 
@@ -174,7 +198,8 @@ abbrev pub branch_context : Context → Context
 branch_context c = record c { keep = c.next; next = c.next + 5 }
 
 abbrev pub second_branch : Tables → Stmt → Context → Copy → Context
-second_branch tables p c a = record (branch_context c) { register = c.register + registers tables p; next = a.next }
+second_branch tables p c a =
+    record (branch_context c) { register = c.register + registers tables p; next = a.next }
 
 abbrev pub beside : Tables → Stmt → ℕ → List Equation → Context → Copy → Copy → Copy
 beside tables p live own c a b =
@@ -196,7 +221,12 @@ beside tables p live own c a b =
     }
 
 abbrev pub of_trap_copy : Context → Copy → Copy
-of_trap_copy c a = record a { equations = record { wire = c.next; formula = OfTrap a.status } ∷ a.equations; status = c.next }
+of_trap_copy c a =
+    record a {
+      equations = record { wire = c.next; formula = OfTrap a.status } ∷
+          a.equations;
+      status = c.next;
+    }
 
 -- A weak abort that looks at its test. Wire n is what its body keeps.
 abbrev pub weak_context : Context → Context
@@ -239,7 +269,17 @@ tested_copy t live code c a =
 
 -- it ticks with this code where `go` is on
 abbrev pub plain_copy : ℕ → Context → Copy
-plain_copy code c = record { equations = record { wire = c.next; formula = Status c.go code } ∷ []; status = c.next; live = 0; emits = []; variables = c.wires.variables; sets = none; next = c.next + 1 }
+plain_copy code c =
+    record {
+      equations = record { wire = c.next; formula = Status c.go code } ∷
+          [];
+      status = c.next;
+      live = 0;
+      emits = [];
+      variables = c.wires.variables;
+      sets = none;
+      next = c.next + 1;
+    }
 
 -- the second part starts where the first, of this status, has ended; nothing is built where it can't end
 abbrev pub starting_if : Bool → Copy → Context → Copy
@@ -248,7 +288,13 @@ starting_if false a c = nothing_built c
 
 -- the context of a second part behind a copy
 abbrev pub next_context : ℕ → ℕ → Copy → Context → Context
-next_context go register a c = record c { go = go; register = register; wires = record (c.wires) { variables = a.variables }; next = a.next }
+next_context go register a c =
+    record c {
+      go = go;
+      register = register;
+      wires = record (c.wires) { variables = a.variables };
+      next = a.next;
+    }
 
 -- the context of a second alternative, whose first is this copy
 abbrev pub other_context : ℕ → ℕ → Copy → Context → Context

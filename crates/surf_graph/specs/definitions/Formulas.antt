@@ -94,7 +94,8 @@ formula_value f w (IsStatus a n) = of_bool (to_nat (w a) == n)
 formula_value f w (Greater a b) = pos (max (to_nat (w a)) (to_nat (w b)))
 formula_value f w (OfTrap a) = pos (of_trap (to_nat (w a)))
 formula_value f w (OfWeakAbort t a) = cond (is_on w t) (pos (of_weak_abort (to_nat (w a)))) (w a)
-formula_value f w (Combine info some so_far v) = cond (is_on w some) (combined info.combine (value_kind info) (w so_far) (w v)) (w v)
+formula_value f w (Combine info some so_far v) =
+    cond (is_on w some) (combined info.combine (value_kind info) (w so_far) (w v)) (w v)
 formula_value f w (Value e v) = value_of (readings w v) e
 formula_value f w (Holds t v) = of_bool (holds (told_env w v) t)
 

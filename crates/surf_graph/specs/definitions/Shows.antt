@@ -26,7 +26,8 @@ pub record Agreeing (limit : ℕ) (w v : ℕ → ℤ) : Type 0 where
   pub at : (k : ℕ) → k < limit → v k ≡ w k
 
 -- values that satisfy a copy's equations, are these below n, and tell this tick
-pub record Shows (tables : Tables) (f w : ℕ → ℤ) (p : Stmt) (r keep n : ℕ) (copy : Copy) (o : Tick) : Type 0 where
+pub record Shows (tables : Tables) (f w : ℕ →
+    ℤ) (p : Stmt) (r keep n : ℕ) (copy : Copy) (o : Tick) : Type 0 where
   pub values : ℕ → ℤ
   pub same : Agreeing n w values
   pub solves : Satisfies f values copy.equations

@@ -16,7 +16,8 @@ IsSource tables (If e p q) = IsSource tables p × IsSource tables q
 IsSource tables (Present t p q) = IsSource tables p × IsSource tables q
 IsSource tables (Seq p q) = IsSource tables p × IsSource tables q
 IsSource tables (Loop p) = IsSource tables p
-IsSource tables (Par p q) = ((x : ℕ) → writes p x && writes q x ≡ false) × IsSource tables p × IsSource tables q
+IsSource tables (Par p q) =
+    ((x : ℕ) → writes p x && writes q x ≡ false) × IsSource tables p × IsSource tables q
 IsSource tables (Trap p) = IsSource tables p
 IsSource tables (Exit d) = Unit {0}
 IsSource tables (Abort weak armed t p) = IsSource tables p

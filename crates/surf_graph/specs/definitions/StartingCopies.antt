@@ -46,30 +46,39 @@ start tables Nothing c = plain_copy ended_code c
 start tables Pause c =
     let n = c.next in
     record (plain_copy paused_code c) {
-      equations = record { wire = n; formula = Status c.go paused_code } ∷ record { wire = n + 1; formula = And c.go c.keep } ∷ [];
+      equations =
+          record { wire = n; formula = Status c.go paused_code } ∷
+          record { wire = n + 1; formula = And c.go c.keep } ∷ [];
       sets = λ k. record { condition = n + 1; value = n + 1 } ∷ [];
       next = n + 2;
     }
 start tables (Emit s e) c =
     let n = c.next in
     record (plain_copy ended_code c) {
-      equations = record { wire = n; formula = Status c.go ended_code } ∷ record { wire = n + 1; formula = emitted_value e c.wires } ∷ [];
+      equations =
+          record { wire = n; formula = Status c.go ended_code } ∷
+          record { wire = n + 1; formula = emitted_value e c.wires } ∷ [];
       emits = record { signal = s; condition = c.go; value = n + 1 } ∷ [];
       next = n + 2;
     }
 start tables (Assign y e) c =
     let n = c.next in
     record (plain_copy ended_code c) {
-      equations = record { wire = n; formula = Status c.go ended_code } ∷ record { wire = n + 1; formula = Value e c.wires } ∷ record { wire = n + 2; formula = Choose c.go (n + 1) (c.wires.variables y) } ∷ [];
+      equations =
+          record { wire = n; formula = Status c.go ended_code } ∷
+          record { wire = n + 1; formula = Value e c.wires } ∷
+          record { wire = n + 2; formula = Choose c.go (n + 1) (c.wires.variables y) } ∷ [];
       variables = put_at c.wires.variables y (n + 2);
       next = n + 3;
     }
 start tables (If e p q) c =
     let a = start tables p (part_context (c.next + 3) 5 c) in
-    chosen_copy tables p q (Value e c.wires) c a (start tables q (other_context (c.next + 4) (c.register + registers tables p) a c))
+    chosen_copy tables p q (Value e c.wires) c a
+    (start tables q (other_context (c.next + 4) (c.register + registers tables p) a c))
 start tables (Present t p q) c =
     let a = start tables p (part_context (c.next + 3) 5 c) in
-    chosen_copy tables p q (Holds t c.wires) c a (start tables q (other_context (c.next + 4) (c.register + registers tables p) a c))
+    chosen_copy tables p q (Holds t c.wires) c a
+    (start tables q (other_context (c.next + 4) (c.register + registers tables p) a c))
 start tables (Seq p q) c =
     let n = c.next in
     let m = c.register + registers tables p in
@@ -85,20 +94,29 @@ start tables (Trap p) c = of_trap_copy c (start tables p (part_context c.go 1 c)
 start tables (Exit d) c = plain_copy (exit_code d) c
 start tables (Abort weak false t p) c = start tables p c
 start tables (Abort true true t p) c = weak_copy t c (start tables p (weak_context c))
-start tables (Abort false true t p) c = tested_copy t c.go ended_code c (start tables p (tested_context c))
+start tables (Abort false true t p) c =
+    tested_copy t c.go ended_code c (start tables p (tested_context c))
 start tables (Suspend armed t p) c = start tables p c
-start tables (Local s v p) c = local_copy tables s (Const v) c (start tables p (local_context tables s c))
+start tables (Local s v p) c =
+    local_copy tables s (Const v) c (start tables p (local_context tables s c))
 start tables (Send ch e) c =
     let n = c.next in
     record (plain_copy paused_code c) {
-      equations = record { wire = n; formula = Status c.go paused_code } ∷ record { wire = n + 1; formula = And c.go c.keep } ∷ record { wire = n + 2; formula = Value e c.wires } ∷ [];
-      sets = λ k. cond (k == c.register) (record { condition = n + 1; value = n + 1 } ∷ []) (cond (k == c.register + 1) [] (record { condition = n + 1; value = n + 2 } ∷ []));
+      equations =
+          record { wire = n; formula = Status c.go paused_code } ∷
+          record { wire = n + 1; formula = And c.go c.keep } ∷
+          record { wire = n + 2; formula = Value e c.wires } ∷ [];
+      sets =
+          λ k. cond (k == c.register) (record { condition = n + 1; value = n + 1 } ∷
+          []) (cond (k == c.register + 1) [] (record { condition = n + 1; value = n + 2 } ∷ []));
       next = n + 3;
     }
 start tables (Receive ch) c =
     let n = c.next in
     record (plain_copy paused_code c) {
-      equations = record { wire = n; formula = Status c.go paused_code } ∷ record { wire = n + 1; formula = And c.go c.keep } ∷ [];
+      equations =
+          record { wire = n; formula = Status c.go paused_code } ∷
+          record { wire = n + 1; formula = And c.go c.keep } ∷ [];
       sets = λ k. cond (k == c.register) (record { condition = n + 1; value = n + 1 } ∷ []) [];
       next = n + 2;
     }

@@ -12,7 +12,9 @@ use Rattle.surf_graph.specs.definitions.Copies.{Copy, Emits, Sets}
 -- the emissions whose conditions are on, in order
 abbrev pub emitted : (ℕ → ℤ) → List Emits → List Emission
 emitted w [] = []
-emitted w (e ∷ es) = cond (is_on w e.condition) (record { signal = e.signal; value = w e.value } ∷ emitted w es) (emitted w es)
+emitted w (e ∷ es) =
+    cond (is_on w e.condition) (record { signal = e.signal; value = w e.value } ∷
+    emitted w es) (emitted w es)
 
 -- the value that the first set that is on gives, and else 0
 abbrev pub set_value : (ℕ → ℤ) → List Sets → ℤ
@@ -30,7 +32,8 @@ registers_set w sets k = set_value w (sets k)
 -- a pure signal is emitted with the value 0
 abbrev pub PureZero : Tables → List Emission → Type 0
 PureZero tables [] = Unit {0}
-PureZero tables (e ∷ es) = ((signal_at tables e.signal).kind ≡ None → e.value ≡ pos 0) × PureZero tables es
+PureZero tables (e ∷ es) =
+    ((signal_at tables e.signal).kind ≡ None → e.value ≡ pos 0) × PureZero tables es
 
 -- the registers of p from n on are those of a live statement and stand for t
 pub record Stands (tables : Tables) (p : Stmt) (n : ℕ) (r : ℕ → ℤ) (t : Stmt) : Type 0 where
@@ -48,16 +51,19 @@ pub record Off (w : ℕ → ℤ) (sets : ℕ → List Sets) : Type 0 where
   pub each : (k : ℕ) → AllOff w (sets k)
 
 -- A copy of p tells this tick.
-pub record Tells (tables : Tables) (w : ℕ → ℤ) (p : Stmt) (n keep : ℕ) (copy : Copy) (o : Tick) : Type 0 where
+pub record Tells (tables : Tables) (w : ℕ →
+    ℤ) (p : Stmt) (n keep : ℕ) (copy : Copy) (o : Tick) : Type 0 where
   pub status : w copy.status ≡ pos (status_of o.code)
   pub emits : emitted w copy.emits ≡ o.emits
   pub variables : told w copy.variables ≡ o.variables
   pub pure : PureZero tables o.emits
-  pub sets : has_paused o.code && is_on w keep ≡ true → Stands tables p n (registers_set w copy.sets) o.rest
+  pub sets : has_paused o.code && is_on w keep ≡ true →
+      Stands tables p n (registers_set w copy.sets) o.rest
   pub unset : has_paused o.code && is_on w keep ≡ false → Off w copy.sets
 
 -- a copy in which t ticks
-pub record Active (tables : Tables) (last : ℕ → ℤ) (env : Env) (x : ℕ → ℤ) (w : ℕ → ℤ) (p t : Stmt) (n keep : ℕ) (copy : Copy) : Type 0 where
+pub record Active (tables : Tables) (last : ℕ → ℤ) (env : Env) (x : ℕ → ℤ) (w : ℕ →
+    ℤ) (p t : Stmt) (n keep : ℕ) (copy : Copy) : Type 0 where
   pub tick : Tick
   pub ticks : Ticks tables last t env x tick
   pub tells : Tells tables w p n keep copy tick
@@ -74,7 +80,8 @@ pub record Silent (w : ℕ → ℤ) (x : ℕ → ℤ) (copy : Copy) : Type 0 whe
   pub sets : Off w copy.sets
 
 -- and is held: its registers stay where they are kept
-pub record Held (tables : Tables) (f w : ℕ → ℤ) (x : ℕ → ℤ) (p : Stmt) (n keep : ℕ) (copy : Copy) : Type 0 where
+pub record Held (tables : Tables) (f w : ℕ → ℤ) (x : ℕ →
+    ℤ) (p : Stmt) (n keep : ℕ) (copy : Copy) : Type 0 where
   pub quiet : Quiet w x copy
   pub stays : is_on w keep ≡ true → Remain tables p n f (registers_set w copy.sets)
   pub unset : is_on w keep ≡ false → Off w copy.sets

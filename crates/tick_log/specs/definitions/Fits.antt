@@ -32,7 +32,8 @@ IsStatus kind (Some v) = IsSignalValue kind v
 -- one status per signal, and each is one of its signal
 abbrev pub AreStatuses : List SignalInfo → List (Option ℤ) → Type 0
 AreStatuses [] [] = Unit {0}
-AreStatuses (info ∷ infos) (status ∷ statuses) = IsStatus info.kind status × AreStatuses infos statuses
+AreStatuses (info ∷ infos) (status ∷ statuses) =
+    IsStatus info.kind status × AreStatuses infos statuses
 AreStatuses _ _ = ⊥
 
 pub record IsEntry (infos : List SignalInfo) (e : Entry) : Type 0 where
@@ -61,4 +62,5 @@ pub record FitsSystem (system : System) (run : RunState) : Type 0 where
   pub domains : length run.logs ≡ length (domains_of system)
   pub channels : length run.histories ≡ length (tables_of system).channels
   pub logs : (d : ℕ) → d < length run.logs → IsLog (tables_of system) d (log_of run d)
-  pub histories : (c : ℕ) → c < length run.histories → IsHistory (channel_at (tables_of system) c).kind (history_of run c)
+  pub histories : (c : ℕ) → c < length run.histories →
+      IsHistory (channel_at (tables_of system) c).kind (history_of run c)

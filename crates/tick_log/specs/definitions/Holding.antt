@@ -10,9 +10,11 @@ use Rattle.tick_log.specs.definitions.Fits.{FitsSystem}
 
 -- what logs and histories are as a run
 abbrev pub run_state : Run → RunState
-run_state run = record { logs = map logged run.domains.items; histories = map joined run.channels.items }
+run_state run =
+    record { logs = map logged run.domains.items; histories = map joined run.channels.items }
 
 -- the run fits the system, and each log is over its domain's interface signals
 pub record HoldsRun (system : System) (run : Run) : Type 0 where
   pub fits : FitsSystem system (run_state run)
-  pub signals : (d : ℕ) → d < length run.domains.items → (get_or run.domains.items d no_log).signals ≡ length (interface_of (tables_of system) d)
+  pub signals : (d : ℕ) → d < length run.domains.items →
+      (get_or run.domains.items d no_log).signals ≡ length (interface_of (tables_of system) d)

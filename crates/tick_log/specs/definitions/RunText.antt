@@ -40,12 +40,14 @@ signal_text info None = []
 
 -- these signals, each with its status
 abbrev pub signal_texts : List SignalInfo → List (Option ℤ) → List ℕ
-signal_texts (info ∷ infos) (status ∷ statuses) = signal_text info status ++ signal_texts infos statuses
+signal_texts (info ∷ infos) (status ∷ statuses) =
+    signal_text info status ++ signal_texts infos statuses
 signal_texts _ _ = []
 
 -- `T @STAMP` and the present signals
 abbrev pub tick_line : List SignalInfo → ℕ → Entry → List ℕ
-tick_line infos tick e = decimal tick ++ codes " @" ++ decimal e.stamp ++ signal_texts infos e.statuses
+tick_line infos tick e =
+    decimal tick ++ codes " @" ++ decimal e.stamp ++ signal_texts infos e.statuses
 
 -- one line per tick, whose numbers begin here
 abbrev pub tick_lines : List SignalInfo → ℕ → List Entry → List (List ℕ)
@@ -58,18 +60,23 @@ mark_word Going = codes " paused"
 
 -- `domain D ticks N` and how the domain stands
 abbrev pub domain_line : ℕ → DomainLog → List ℕ
-domain_line domain log = codes "domain " ++ decimal domain ++ codes " ticks " ++ decimal (length log.entries) ++ mark_word log.mark
+domain_line domain log =
+    codes "domain " ++ decimal domain ++ codes " ticks " ++ decimal (length log.entries) ++
+    mark_word log.mark
 
 -- the lines of each domain, whose numbers begin here
 abbrev pub domain_lines : Tables → ℕ → List DomainLog → List (List ℕ)
 domain_lines t domain [] = []
 domain_lines t domain (log ∷ logs) =
-    domain_line domain log ∷ (tick_lines (interface_signals t domain) 1 log.entries ++ domain_lines t (domain + 1) logs)
+    domain_line domain log ∷
+    (tick_lines (interface_signals t domain) 1 log.entries ++ domain_lines t (domain + 1) logs)
 
 -- `J VALUE S R @STAMP`
 abbrev pub join_line : Kind → ℕ → JoinRow → List ℕ
 join_line kind join row =
-    decimal join ++ codes " " ++ value_text kind row.value ++ codes " " ++ decimal row.sender_ticks ++ codes " " ++ decimal row.receiver_ticks ++ codes " @" ++ decimal row.stamp
+    decimal join ++ codes " " ++ value_text kind row.value ++ codes " " ++
+    decimal row.sender_ticks ++ codes " " ++ decimal row.receiver_ticks ++ codes " @" ++
+    decimal row.stamp
 
 -- one line per join, whose numbers begin here
 abbrev pub join_lines : Kind → ℕ → List JoinRow → List (List ℕ)
@@ -84,7 +91,8 @@ channel_line name rows = codes "channel " ++ name ++ codes " " ++ decimal (lengt
 abbrev pub channel_lines : Tables → ℕ → List (List JoinRow) → List (List ℕ)
 channel_lines t channel [] = []
 channel_lines t channel (rows ∷ histories) =
-    channel_line (channel_at t channel).name rows ∷ (join_lines (channel_at t channel).kind 1 rows ++ channel_lines t (channel + 1) histories)
+    channel_line (channel_at t channel).name rows ∷
+    (join_lines (channel_at t channel).kind 1 rows ++ channel_lines t (channel + 1) histories)
 
 -- each line ends with byte 10
 abbrev pub text_of_lines : List (List ℕ) → List ℕ

@@ -25,7 +25,13 @@ entry_at entries i = slice_index_or entries i (record { stamp = 0; statuses = []
 
 -- the join at a place, counted from 0
 abbrev pub row_at : List JoinRow → ℕ → JoinRow
-row_at rows i = slice_index_or rows i (record { value = pos 0; sender_ticks = 0; receiver_ticks = 0; stamp = 0 })
+row_at rows i =
+    slice_index_or rows i (record {
+      value = pos 0;
+      sender_ticks = 0;
+      receiver_ticks = 0;
+      stamp = 0;
+    })
 
 -- the log of each domain and the joins of each channel, by number
 pub record RunState : Type 0 where

@@ -72,4 +72,5 @@ interface_count t = length (numbers_where (λ (s : SignalInfo). not (is_local s.
 -- both trees of the domain of this number are causal
 pub record IsCausalDomain (system : System) (d : ℕ) : Type 0 where
   pub within : d < length (domains_of system)
-  pub trees : (t : Term) → HasCausalTrees (get_or (domains_of system) d t) (interface_count (tables_of system))
+  pub trees : (t : Term) →
+      HasCausalTrees (get_or (domains_of system) d t) (interface_count (tables_of system))

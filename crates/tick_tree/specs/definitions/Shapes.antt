@@ -28,13 +28,21 @@ abbrev pub bare : ℕ → Shape
 bare at = Single (record { at = at; nodes = 0; reads = []; writes = [] })
 
 abbrev pub of_expression : ℕ → Expression → Shape
-of_expression at e = Single (record { at = at; nodes = nodes_of e; reads = signals_read e; writes = [] })
+of_expression at e =
+    Single (record { at = at; nodes = nodes_of e; reads = signals_read e; writes = [] })
 
 abbrev pub of_test : ℕ → Test → Shape
-of_test at t = Single (record { at = at; nodes = nodes_of_test t; reads = signals_tested t; writes = [] })
+of_test at t =
+    Single (record { at = at; nodes = nodes_of_test t; reads = signals_tested t; writes = [] })
 
 abbrev pub of_emission : ℕ → ℕ → Option Expression → Shape
-of_emission at s e = Single (record { at = at; nodes = nodes_of_value e; reads = signals_of_value e; writes = s ∷ [] })
+of_emission at s e =
+    Single (record {
+      at = at;
+      nodes = nodes_of_value e;
+      reads = signals_of_value e;
+      writes = s ∷ [];
+    })
 
 -- the test of an immediate abort stands before the body of a strong one, and beside that of a weak one
 abbrev pub with_test : (weak : Bool) → Shape → Shape → Shape
@@ -48,14 +56,23 @@ starting_shape at n Nothing = bare (at n)
 starting_shape at n Pause = bare (at n)
 starting_shape at n (Emit s e) = of_emission (at n) s e
 starting_shape at n (Assign x e) = of_expression (at n) e
-starting_shape at n (If e p q) = InTurn (of_expression (at n) e) (OneOf (starting_shape at (suc n) p) (starting_shape at (suc n + own_leaves p) q))
-starting_shape at n (Present t p q) = InTurn (of_test (at n) t) (OneOf (starting_shape at (suc n) p) (starting_shape at (suc n + own_leaves p) q))
-starting_shape at n (Seq p q) = cond (ends0 p) (InTurn (starting_shape at n p) (starting_shape at (n + own_leaves p) q)) (starting_shape at n p)
+starting_shape at n (If e p q) =
+    InTurn (of_expression (at n) e)
+    (OneOf (starting_shape at (suc n) p) (starting_shape at (suc n + own_leaves p) q))
+starting_shape at n (Present t p q) =
+    InTurn (of_test (at n) t)
+    (OneOf (starting_shape at (suc n) p) (starting_shape at (suc n + own_leaves p) q))
+starting_shape at n (Seq p q) =
+    cond (ends0 p) (InTurn (starting_shape at n p) (starting_shape at (n + own_leaves p) q))
+    (starting_shape at n p)
 starting_shape at n (Loop p) = starting_shape at n p
-starting_shape at n (Par p q) = Beside (starting_shape at n p) (starting_shape at (n + own_leaves p) q)
+starting_shape at n (Par p q) =
+    Beside (starting_shape at n p) (starting_shape at (n + own_leaves p) q)
 starting_shape at n (Trap p) = starting_shape at n p
 starting_shape at n (Exit d) = bare (at n)
-starting_shape at n (Abort weak armed t p) = cond armed (with_test weak (of_test (at n) t) (starting_shape at (suc n) p)) (starting_shape at (suc n) p)
+starting_shape at n (Abort weak armed t p) =
+    cond armed (with_test weak (of_test (at n) t) (starting_shape at (suc n) p))
+    (starting_shape at (suc n) p)
 starting_shape at n (Suspend armed t p) = starting_shape at (suc n) p
 starting_shape at n (Local s v p) = WithNew s (starting_shape at n p)
 starting_shape at n (Send c e) = of_expression (at n) e
@@ -91,18 +108,26 @@ resuming_shape at n Nothing = None
 resuming_shape at n Pause = Some (bare (at n))
 resuming_shape at n (Emit s e) = None
 resuming_shape at n (Assign x e) = None
-resuming_shape at n (If e p q) = joined_by OneOf (resuming_shape at (suc n) p) (resuming_shape at (suc n + own_leaves p) q)
-resuming_shape at n (Present t p q) = joined_by OneOf (resuming_shape at (suc n) p) (resuming_shape at (suc n + own_leaves p) q)
+resuming_shape at n (If e p q) =
+    joined_by OneOf (resuming_shape at (suc n) p) (resuming_shape at (suc n + own_leaves p) q)
+resuming_shape at n (Present t p q) =
+    joined_by OneOf (resuming_shape at (suc n) p) (resuming_shape at (suc n + own_leaves p) q)
 resuming_shape at n (Seq p q) =
     joined_by OneOf
-    (cond (ends1 p) (then_shape (resuming_shape at n p) (starting_shape at (n + own_leaves p) q)) (resuming_shape at n p))
+    (cond (ends1 p) (then_shape (resuming_shape at n p) (starting_shape at (n + own_leaves p) q))
+    (resuming_shape at n p))
     (resuming_shape at (n + own_leaves p) q)
-resuming_shape at n (Loop p) = cond (ends1 p) (then_shape (resuming_shape at n p) (starting_shape at n p)) (resuming_shape at n p)
-resuming_shape at n (Par p q) = joined_by Beside (resuming_shape at n p) (resuming_shape at (n + own_leaves p) q)
+resuming_shape at n (Loop p) =
+    cond (ends1 p) (then_shape (resuming_shape at n p) (starting_shape at n p))
+    (resuming_shape at n p)
+resuming_shape at n (Par p q) =
+    joined_by Beside (resuming_shape at n p) (resuming_shape at (n + own_leaves p) q)
 resuming_shape at n (Trap p) = resuming_shape at n p
 resuming_shape at n (Exit d) = None
-resuming_shape at n (Abort weak armed t p) = tested (with_test weak) (of_test (at n) t) (resuming_shape at (suc n) p)
-resuming_shape at n (Suspend armed t p) = tested InTurn (of_test (at n) t) (resuming_shape at (suc n) p)
+resuming_shape at n (Abort weak armed t p) =
+    tested (with_test weak) (of_test (at n) t) (resuming_shape at (suc n) p)
+resuming_shape at n (Suspend armed t p) =
+    tested InTurn (of_test (at n) t) (resuming_shape at (suc n) p)
 resuming_shape at n (Local s v p) = with_new s (resuming_shape at n p)
 resuming_shape at n (Send c e) = Some (bare (at n))
 resuming_shape at n (Receive c) = Some (bare (at n))

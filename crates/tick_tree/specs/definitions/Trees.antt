@@ -42,15 +42,25 @@ abbrev pub renamed : (ℕ → ℕ) → ℕ → ℕ → ℕ → ℕ
 renamed names s n k = cond (k == s) n (names k)
 
 abbrev pub leaf_of : (ℕ → ℕ) → ℕ → Spot → Leaf
-leaf_of names number x = record { number = number; at = x.at; nodes = x.nodes; reads = map names x.reads; writes = map names x.writes }
+leaf_of names number x =
+    record {
+      number = number;
+      at = x.at;
+      nodes = x.nodes;
+      reads = map names x.reads;
+      writes = map names x.writes;
+    }
 
 -- Leaves are numbered from the left, and so are copies of local signals, an outer one before an inner one. What
 -- reads or writes a local signal within a copy's part reads or writes that copy.
 abbrev pub numbered : (names : ℕ → ℕ) → (leaf copy : ℕ) → Shape → Tree
 numbered names leaf copy (Single x) = One (leaf_of names leaf x)
-numbered names leaf copy (InTurn p q) = Seq (numbered names leaf copy p) (numbered names (leaf + leaves_in p) (copy + copies_in p) q)
-numbered names leaf copy (OneOf p q) = Alt (numbered names leaf copy p) (numbered names (leaf + leaves_in p) (copy + copies_in p) q)
-numbered names leaf copy (Beside p q) = Both (numbered names leaf copy p) (numbered names (leaf + leaves_in p) (copy + copies_in p) q)
+numbered names leaf copy (InTurn p q) =
+    Seq (numbered names leaf copy p) (numbered names (leaf + leaves_in p) (copy + copies_in p) q)
+numbered names leaf copy (OneOf p q) =
+    Alt (numbered names leaf copy p) (numbered names (leaf + leaves_in p) (copy + copies_in p) q)
+numbered names leaf copy (Beside p q) =
+    Both (numbered names leaf copy p) (numbered names (leaf + leaves_in p) (copy + copies_in p) q)
 numbered names leaf copy (WithNew s p) = numbered (renamed names s copy) leaf (suc copy) p
 
 -- with the numbers of the leaves from 0, and those of the copies from the number of interface signals

@@ -17,7 +17,8 @@ pub record JoinsAt (setup : Setup) (r : RunState) (d n c i : ℕ) : Type 0 where
 
 -- one of domain d's joins after n ticks has this stamp
 abbrev pub IsJoinedAfter : Setup → RunState → ℕ → ℕ → ℕ → Type 0
-IsJoinedAfter setup r d n t = (c : ℕ) × (i : ℕ) × JoinsAt setup r d n c i × (t ≡ (join_of r c i).stamp)
+IsJoinedAfter setup r d n t =
+    (c : ℕ) × (i : ℕ) × JoinsAt setup r d n c i × (t ≡ (join_of r c i).stamp)
 
 -- the stamps of a domain's ticks
 abbrev pub tick_stamps : RunState → ℕ → ℕ → ℕ
@@ -31,12 +32,16 @@ pub record IsJoinStamp (setup : Setup) (r : RunState) (c : ℕ) (row : JoinRow) 
   pub receiver_number : row.receiver_ticks ≡ suc receiver
   pub sender_stands : sender < tick_count r (sender_of setup c)
   pub receiver_stands : receiver < tick_count r (receiver_of setup c)
-  pub stamp : row.stamp ≡ join_stamp (tick_of r (sender_of setup c) sender).stamp (tick_of r (receiver_of setup c) receiver).stamp
+  pub stamp : row.stamp ≡
+      join_stamp (tick_of r (sender_of setup c) sender).stamp
+      (tick_of r (receiver_of setup c) receiver).stamp
 
 -- all ticks and joins have the stamps of the rule
 pub record HasStamps (setup : Setup) (r : RunState) : Type 0 where
-  pub ticks : (d n : ℕ) → n < tick_count r d → IsTickStamp (last_stamp (tick_stamps r d) n) (IsJoinedAfter setup r d n) (tick_of r d n).stamp
-  pub joins : (c i : ℕ) → c < channel_count setup → i < join_count r c → IsJoinStamp setup r c (join_of r c i)
+  pub ticks : (d n : ℕ) → n < tick_count r d →
+      IsTickStamp (last_stamp (tick_stamps r d) n) (IsJoinedAfter setup r d n) (tick_of r d n).stamp
+  pub joins : (c i : ℕ) → c < channel_count setup → i < join_count r c →
+      IsJoinStamp setup r c (join_of r c i)
 
 -- one log for each domain and one history for each channel
 pub record Fits (setup : Setup) (r : RunState) : Type 0 where
@@ -45,17 +50,25 @@ pub record Fits (setup : Setup) (r : RunState) : Type 0 where
 
 -- a row of a history without its stamp
 abbrev pub record_of : JoinRow → JoinRecord
-record_of row = record { value = row.value; sender_ticks = row.sender_ticks; receiver_ticks = row.receiver_ticks }
+record_of row =
+    record {
+      value = row.value;
+      sender_ticks = row.sender_ticks;
+      receiver_ticks = row.receiver_ticks;
+    }
 
 -- the tick or join is a step from this state, at its number and with what the run shows of it
 abbrev pub Makes : Setup → RunState → SystemState → Event → SystemState → Type 0
-Makes setup r old (TickOf d n) new = ((old.domain d).ticks ≡ n) × Step setup old (MakesTick d (tick_of r d n).statuses) new
-Makes setup r old (JoinOf c i) new = (length (old.joins c) ≡ i) × Step setup old (MakesJoin c (record_of (join_of r c i))) new
+Makes setup r old (TickOf d n) new =
+    ((old.domain d).ticks ≡ n) × Step setup old (MakesTick d (tick_of r d n).statuses) new
+Makes setup r old (JoinOf c i) new =
+    (length (old.joins c) ≡ i) × Step setup old (MakesJoin c (record_of (join_of r c i))) new
 
 -- these ticks and joins are steps, one after another
 abbrev pub MakesAll : Setup → RunState → SystemState → List Event → SystemState → Type 0
 MakesAll setup r old [] new = old ≡ new
-MakesAll setup r old (e ∷ es) new = (mid : SystemState) × Makes setup r old e mid × MakesAll setup r mid es new
+MakesAll setup r old (e ∷ es) new =
+    (mid : SystemState) × Makes setup r old e mid × MakesAll setup r mid es new
 
 -- The run is legal and ends in this state: its ticks and joins in stamp order are steps from the start, with
 -- the stamps of the rule, and the logs have the marks of the domains.

@@ -21,7 +21,12 @@ source_of system d = get_or (map statement (domains_of system)) d Nothing
 
 -- a system that is given these inputs
 abbrev pub setup_of : System → Inputs → Setup
-setup_of system inputs = record { tables = tables_of system; statements = map statement (domains_of system); inputs = inputs }
+setup_of system inputs =
+    record {
+      tables = tables_of system;
+      statements = map statement (domains_of system);
+      inputs = inputs;
+    }
 
 -- how many domains and channels there are
 abbrev pub domain_count : Setup → ℕ
@@ -138,7 +143,8 @@ with_found tables d found s = record s {
   statement =
       rewritten (λ c. ((channel_at tables c).sender == d) && is_some (found c))
       (λ c. ((channel_at tables c).receiver == d) && is_some (found c)) s.statement;
-  last = λ c. cond ((channel_at tables c).receiver == d) (unwrap_or (found c) (s.last c)) (s.last c);
+  last =
+      λ c. cond ((channel_at tables c).receiver == d) (unwrap_or (found c) (s.last c)) (s.last c);
 }
 
 -- the join of one channel
@@ -151,30 +157,38 @@ pub data Move : Type 0 where
   MakesJoin : (channel : ℕ) (join : JoinRecord) → Move
 
 -- a domain makes a legal tick, and all else stays
-pub record TickStep (setup : Setup) (old : SystemState) (d : ℕ) (statuses : List (Option ℤ)) (new : SystemState) : Type 0 where
+pub record TickStep (setup : Setup) (old : SystemState) (d : ℕ) (statuses : List (Option ℤ))
+    (new : SystemState) : Type 0 where
   pub after : DomainState
   pub legal : IsLegalTick setup.tables setup.inputs d (old.domain d) statuses after
   pub next : new ≡ record old { domain = put_at old.domain d after }
 
 -- The two ends of a channel wait and complete: the receiver has the value, and the channel a join more.
-pub record JoinStep (setup : Setup) (old : SystemState) (c : ℕ) (join : JoinRecord) (new : SystemState) : Type 0 where
+pub record JoinStep (setup : Setup) (old : SystemState) (c : ℕ) (join : JoinRecord)
+    (new : SystemState) : Type 0 where
   pub sends : WaitsToSend c join.value (old.domain (sender_of setup c)).statement
   pub receives : WaitsToReceive c (old.domain (receiver_of setup c)).statement
   pub sender_ticks : join.sender_ticks ≡ (old.domain (sender_of setup c)).ticks
   pub receiver_ticks : join.receiver_ticks ≡ (old.domain (receiver_of setup c)).ticks
   pub next : new ≡ record {
     domain =
-        put_at (put_at old.domain (sender_of setup c) (with_found setup.tables (sender_of setup c) (only c join.value) (old.domain (sender_of setup c))))
-        (receiver_of setup c) (with_found setup.tables (receiver_of setup c) (only c join.value) (old.domain (receiver_of setup c)));
+        put_at (put_at old.domain (sender_of setup c)
+        (with_found setup.tables (sender_of setup c) (only c join.value)
+        (old.domain (sender_of setup c))))
+        (receiver_of setup c)
+        (with_found setup.tables (receiver_of setup c) (only c join.value)
+        (old.domain (receiver_of setup c)));
     joins = put_at old.joins c (old.joins c ++ join ∷ []);
   }
 
 -- a step of the system
 abbrev pub Step : Setup → SystemState → Move → SystemState → Type 0
-Step setup old (MakesTick d statuses) new = (d < domain_count setup) × TickStep setup old d statuses new
+Step setup old (MakesTick d statuses) new =
+    (d < domain_count setup) × TickStep setup old d statuses new
 Step setup old (MakesJoin c join) new = (c < channel_count setup) × JoinStep setup old c join new
 
 -- these moves, one after another
 abbrev pub Steps : Setup → SystemState → List Move → SystemState → Type 0
 Steps setup old [] new = old ≡ new
-Steps setup old (m ∷ moves) new = (mid : SystemState) × Step setup old m mid × Steps setup mid moves new
+Steps setup old (m ∷ moves) new =
+    (mid : SystemState) × Step setup old m mid × Steps setup mid moves new

@@ -27,10 +27,17 @@ pub record CanCompile (system : System) (d : ℕ) : Type 0 where
 pub record IsCompiled (system : System) (d : ℕ) (v : DomainView) : Type 0 where
   pub of_system : v.system ≡ system
   pub number : v.domain ≡ d
-  pub log : v.log ≡ record { entries = []; mark = Going; signals = length (interface_of (tables_of system) d); room = 0 }
+  pub log : v.log ≡
+      record {
+        entries = [];
+        mark = Going;
+        signals = length (interface_of (tables_of system) d);
+        room = 0;
+      }
   pub spare : v.spare ≡ 0
   pub going : v.stopped ≡ false
-  pub registers : v.registers ≡ replicate (length (domain_registers (tables_of system) d (source_of system d))) (pos 0)
+  pub registers : v.registers ≡
+      replicate (length (domain_registers (tables_of system) d (source_of system d))) (pos 0)
   pub stamp : v.stamp ≡ 0
   pub standing : (n : ℕ) → get_or v.standing n false ≡ false
   pub lists : length v.joins ≡ length (ends_in v)

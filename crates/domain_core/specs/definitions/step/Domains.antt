@@ -35,7 +35,8 @@ abbrev pub ends_from : ℕ → ℕ → List ChannelInfo → List EndOf
 ends_from d c [] = []
 ends_from d c (info ∷ infos) =
     cond (info.sender == d) (record { channel = c; side = Sender } ∷ ends_from d (suc c) infos)
-    (cond (info.receiver == d) (record { channel = c; side = Receiver } ∷ ends_from d (suc c) infos) (ends_from d (suc c) infos))
+    (cond (info.receiver == d) (record { channel = c; side = Receiver } ∷
+    ends_from d (suc c) infos) (ends_from d (suc c) infos))
 
 abbrev pub ends_of : Tables → ℕ → List EndOf
 ends_of tables d = ends_from d 0 tables.channels
@@ -81,4 +82,6 @@ abbrev pub source_in : DomainView → Stmt
 source_in v = source_of v.system v.domain
 
 abbrev pub state_of : DomainView → DomainState
-state_of v = state_held (tables_in v) v.domain (source_in v) (tick_count_of v) v.log.mark (register_at v.registers)
+state_of v =
+    state_held (tables_in v) v.domain (source_in v) (tick_count_of v) v.log.mark
+    (register_at v.registers)

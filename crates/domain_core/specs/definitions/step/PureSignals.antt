@@ -11,4 +11,5 @@ pub record IsPureOutput (info : SignalInfo) : Type 0 where
 
 -- each interface signal of the domain is a pure output
 abbrev pub HasPureOutputs : Tables → ℕ → Type 0
-HasPureOutputs tables d = (s : ℕ) → is_interface_of d (signal_at tables s) ≡ true → IsPureOutput (signal_at tables s)
+HasPureOutputs tables d =
+    (s : ℕ) → is_interface_of d (signal_at tables s) ≡ true → IsPureOutput (signal_at tables s)

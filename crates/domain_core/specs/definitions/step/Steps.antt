@@ -50,20 +50,27 @@ answered ends answers c = value_found (at_channel ends (λ n. get_or answers n N
 -- the joins at each end with those that were answered at the first so many ends, after this number of ticks
 abbrev pub add_join : ℕ → ℕ → Option Joined → List (List EndJoin) → List (List EndJoin)
 add_join ticks n None joins = joins
-add_join ticks n (Some j) joins = set joins n (joins_at joins n ++ record { joined = j; ticks = ticks } ∷ [])
+add_join ticks n (Some j) joins =
+    set joins n (joins_at joins n ++ record { joined = j; ticks = ticks } ∷ [])
 
 abbrev pub add_joins : ℕ → List (Option Joined) → ℕ → List (List EndJoin) → List (List EndJoin)
 add_joins ticks answers zero joins = joins
-add_joins ticks answers (suc n) joins = add_join ticks n (get_or answers n None) (add_joins ticks answers n joins)
+add_joins ticks answers (suc n) joins =
+    add_join ticks n (get_or answers n None) (add_joins ticks answers n joins)
 
 -- the i-th join at an end
 abbrev pub join_in : List (List EndJoin) → ℕ → ℕ → EndJoin
-join_in joins n i = get_or (joins_at joins n) i (record { joined = record { value = pos 0; mine = 0; theirs = 0 }; ticks = 0 })
+join_in joins n i =
+    get_or (joins_at joins n) i (record {
+      joined = record { value = pos 0; mine = 0; theirs = 0 };
+      ticks = 0;
+    })
 
 -- one of the joins of a domain after this number of ticks has this stamp
 abbrev pub IsStampSince : List (List EndJoin) → ℕ → ℕ → Type 0
 IsStampSince joins ticks t =
-    (n : ℕ) × (i : ℕ) × (i < length (joins_at joins n)) × ((join_in joins n i).ticks ≡ ticks) × (t ≡ stamp_of_join (join_in joins n i).joined)
+    (n : ℕ) × (i : ℕ) × (i < length (joins_at joins n)) × ((join_in joins n i).ticks ≡ ticks) ×
+    (t ≡ stamp_of_join (join_in joins n i).joined)
 
 -- the offer has this stamp and, at a sender, the value with which the end waits
 pub record IsWaitingOffer (e : EndOf) (stamp : ℕ) (p : Stmt) (o : StandingOffer) : Type 0 where
@@ -73,7 +80,8 @@ pub record IsWaitingOffer (e : EndOf) (stamp : ℕ) (p : Stmt) (o : StandingOffe
 
 -- the end stands exactly where the domain has it standing, with an offer of the last tick
 pub record StandsAs (v : DomainView) (n : ℕ) (offer : Option StandingOffer) : Type 0 where
-  pub stands : get_or v.standing n false ≡ true → IsSomeAnd offer (IsWaitingOffer (end_at (ends_in v) n) v.stamp (state_of v).statement)
+  pub stands : get_or v.standing n false ≡ true →
+      IsSomeAnd offer (IsWaitingOffer (end_at (ends_in v) n) v.stamp (state_of v).statement)
   pub free : get_or v.standing n false ≡ false → IsNone offer
 
 -- how many ends the domain has
@@ -102,7 +110,10 @@ pub record FitsJoin (kind : Kind) (stamp : ℕ) (j : Joined) : Type 0 where
 
 -- the answers of the domain's ends to offers with this stamp
 abbrev pub FitAnswers : DomainView → ℕ → List (Option Joined) → Type 0
-FitAnswers v stamp answers = (n : ℕ) → n < count_in v → IfSome (get_or answers n None) (FitsJoin (channel_at (tables_in v) (end_at (ends_in v) n).channel).kind stamp)
+FitAnswers v stamp answers =
+    (n : ℕ) → n < count_in v →
+    IfSome (get_or answers n None)
+    (FitsJoin (channel_at (tables_in v) (end_at (ends_in v) n).channel).kind stamp)
 
 -- what a step says of a tick after which the domain stands so
 abbrev pub stepped_to : Mark → Stepped
@@ -112,7 +123,9 @@ stepped_to Ended = stepped.Ended
 -- a domain's registers with the joins that were answered at its ends
 abbrev pub registers_with : DomainView → List (Option Joined) → List ℤ → ℕ → ℤ
 registers_with v answers registers =
-    registers_joined (end_places (tables_in v) (ends_in v) (source_in v) 0) (last_places (tables_in v) v.domain (source_in v)) (ends_in v) answers (count_in v) (register_at registers)
+    registers_joined (end_places (tables_in v) (ends_in v) (source_in v) 0)
+    (last_places (tables_in v) v.domain (source_in v)) (ends_in v) answers (count_in v)
+    (register_at registers)
 
 -- the state with those joins
 abbrev pub state_with : DomainView → List (Option Joined) → DomainState → DomainState
@@ -120,7 +133,8 @@ state_with v answers s = with_found (tables_in v) v.domain (answered (ends_in v)
 
 -- No tick is made, since its stamp is past the limit. No end stands, and the joins that the recalls answered
 -- are kept.
-pub record Stops (old new : DomainView) (answers : List (Option Joined)) (stamp : ℕ) (result : Stepped) : Type 0 where
+pub record Stops (old new : DomainView) (answers : List (Option Joined)) (stamp : ℕ)
+    (result : Stepped) : Type 0 where
   pub limit : 2 ^ 62 ≤ stamp
   pub stepped : result ≡ stepped.StampLimit stamp
   pub stopped : new.stopped ≡ true
@@ -134,17 +148,21 @@ pub record Stops (old new : DomainView) (answers : List (Option Joined)) (stamp 
 -- Right after a tick a domain's registers stand for its state. Where it goes on they fit its source.
 pub record StandFor (v : DomainView) (registers : List ℤ) (s : DomainState) : Type 0 where
   pub count : length registers ≡ length (domain_registers (tables_in v) v.domain (source_in v))
-  pub state : state_held (tables_in v) v.domain (source_in v) s.ticks s.mark (register_at registers) ≡ s
+  pub state : state_held (tables_in v) v.domain (source_in v) s.ticks s.mark (register_at registers)
+      ≡ s
   pub fit : s.mark ≡ Going → FitRegisters (tables_in v) (source_in v) 0 (register_at registers)
 
 -- A legal tick is made from the domain's state with the joins that the recalls answered, and then each end
 -- that waits makes its offer. The new state is the tick's with the joins that the offers answered, and exactly
 -- the ends stand whose offers weren't answered.
-pub record TicksOnce (inputs : Inputs) (old new : DomainView) (answers replies : List (Option Joined)) (asks : List (Option ℤ)) (stamp : ℕ) (result : Stepped) : Type 0 where
+pub record TicksOnce (inputs : Inputs) (old new : DomainView)
+    (answers replies : List (Option Joined)) (asks : List (Option ℤ)) (stamp : ℕ) (result : Stepped)
+    : Type 0 where
   pub limit : stamp < 2 ^ 62
   pub statuses : List (Option ℤ)
   pub after : DomainState
-  pub legal : IsLegalTick (tables_in old) inputs old.domain (state_with old answers (state_of old)) statuses after
+  pub legal : IsLegalTick (tables_in old) inputs old.domain (state_with old answers (state_of old))
+      statuses after
   pub shows : AreStatuses (interface_signals (tables_in old) old.domain) statuses
   pub log : new.log ≡ record {
     entries = old.log.entries ++ record { stamp = stamp; statuses = statuses } ∷ [];
@@ -155,35 +173,49 @@ pub record TicksOnce (inputs : Inputs) (old new : DomainView) (answers replies :
   pub last_stamp : new.stamp ≡ stamp
   pub going : new.stopped ≡ false
   pub stepped : result ≡ stepped_to after.mark
-  pub asked : (n : ℕ) → n < count_in old → IsAsk (end_at (ends_in old) n) after.statement (get_or asks n None)
-  pub replied : (n : ℕ) → n < count_in old → get_or asks n None ≡ None → get_or replies n None ≡ None
+  pub asked : (n : ℕ) → n < count_in old →
+      IsAsk (end_at (ends_in old) n) after.statement (get_or asks n None)
+  pub replied : (n : ℕ) → n < count_in old → get_or asks n None ≡ None →
+      get_or replies n None ≡ None
   pub fit : FitAnswers old stamp replies
   pub state : state_of new ≡ state_with old replies after
   pub between : List ℤ  -- the registers before the joins that the offers answered
   pub stand : StandFor old between after
   pub register_count : length new.registers ≡ length between
   pub registers : register_at new.registers ≡ registers_with old replies between
-  pub joins : new.joins ≡ add_joins (suc (tick_count_of old)) replies (count_in old) (add_joins (tick_count_of old) answers (count_in old) old.joins)
-  pub standing : (n : ℕ) → n < count_in old → get_or new.standing n false ≡ stands_after (get_or asks n None) (get_or replies n None)
+  pub joins : new.joins ≡
+      add_joins (suc (tick_count_of old)) replies (count_in old)
+      (add_joins (tick_count_of old) answers (count_in old) old.joins)
+  pub standing : (n : ℕ) → n < count_in old →
+      get_or new.standing n false ≡ stands_after (get_or asks n None) (get_or replies n None)
 
 -- the offers of a step, where it makes a tick
-abbrev pub Goes : Inputs → DomainView → DomainView → List (Option Joined) → ℕ → Stepped → List (Option ℤ) → List (Option Joined) → Type 0
-Goes inputs old new answers stamp result asks replies = TicksOnce inputs old new answers replies asks stamp result ⊎ (Stops old new answers stamp result × (asks ≡ []))
+abbrev pub Goes : Inputs → DomainView → DomainView → List (Option Joined) → ℕ → Stepped →
+    List (Option ℤ) → List (Option Joined) → Type 0
+Goes inputs old new answers stamp result asks replies =
+    TicksOnce inputs old new answers replies asks stamp result ⊎
+    (Stops old new answers stamp result × (asks ≡ []))
 
 -- A step recalls each end that stands, by rising number. With the joins so found it makes a tick and offers
 -- each end that waits, by rising number, or stops.
-pub record IsStep {S : Type 0} (moved : S → ℕ → CellMove → Option Joined → S → Type 0) (inputs : Inputs) (before after : S) (old new : DomainView) (result : Stepped) : Type 0 where
-  pub answers : List (Option Joined)
-  pub asks : List (Option ℤ)
-  pub replies : List (Option Joined)
-  pub stamp : ℕ
-  pub alone : (n : ℕ) → n < count_in old → get_or old.standing n false ≡ false → get_or answers n None ≡ None
-  pub fit : FitAnswers old old.stamp answers
-  pub next : IsTickStamp old.stamp (IsStampSince (add_joins (tick_count_of old) answers (count_in old) old.joins) (tick_count_of old)) stamp
-  pub goes : Goes inputs old new answers stamp result asks replies
-  pub through :
-      Through moved before
-      (recalls (ends_in old) old.standing answers (count_in old) ++ offers (ends_in old) asks stamp replies (count_in old)) after
-  pub system : new.system ≡ old.system
-  pub domain : new.domain ≡ old.domain
-  pub spare : old.spare ≤ new.spare + 1
+pub record IsStep {S : Type 0} (moved : S → ℕ → CellMove → Option Joined → S →
+    Type 0) (inputs : Inputs) (before after : S) (old new : DomainView) (result : Stepped) : Type 0
+  where
+    pub answers : List (Option Joined)
+    pub asks : List (Option ℤ)
+    pub replies : List (Option Joined)
+    pub stamp : ℕ
+    pub alone : (n : ℕ) → n < count_in old → get_or old.standing n false ≡ false →
+        get_or answers n None ≡ None
+    pub fit : FitAnswers old old.stamp answers
+    pub next : IsTickStamp old.stamp
+        (IsStampSince (add_joins (tick_count_of old) answers (count_in old) old.joins)
+        (tick_count_of old)) stamp
+    pub goes : Goes inputs old new answers stamp result asks replies
+    pub through :
+        Through moved before
+        (recalls (ends_in old) old.standing answers (count_in old) ++
+        offers (ends_in old) asks stamp replies (count_in old)) after
+    pub system : new.system ≡ old.system
+    pub domain : new.domain ≡ old.domain
+    pub spare : old.spare ≤ new.spare + 1
