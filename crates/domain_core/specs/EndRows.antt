@@ -5,7 +5,7 @@ use Rattle.kernel_terms.specs.declared.tables.Tables.{Tables}
 use Rattle.kernel_terms.specs.declared.tables.ChannelInfo.{ChannelInfo}
 use Rattle.kernel_terms.specs.Statements.{Stmt, Nothing, Pause, Emit, Assign, Seq, Par, Exit, Local, Send, Receive, SendWaits, Sent, ReceiveWaits, Received}
 use Rattle.kernel_rules.specs.Rows.{int, summed_local, pure_local}
-use Rattle.tick_code.specs.declared.end_place.EndPlace.{EndPlace}
+use Rattle.plain_code.specs.declared.end_place.EndPlace.{EndPlace}
 use Rattle.domain_core.specs.Rows.{rendezvous}
 use Rattle.domain_core.specs.definitions.runs.Systems.{SystemState, Step, MakesJoin, start_of}
 use Rattle.domain_core.specs.definitions.step.Domains.{ends_of}

@@ -41,7 +41,8 @@ pub use worked::{
     registers_stand_in_order, second_part_has_later_registers, send_and_receive_wait,
     send_computes_at_once, sequence_hands_on_variables, sequence_waits_for_its_first_part,
     shape_tells_ends, shape_tells_exits, some_domains_make_no_tick,
-    statement_assigns_what_it_names, statement_mentions_what_it_names, statements_read_the_tick,
-    statuses_are_as_given, suspend_is_armed_after_its_start, suspended_local_keeps_its_value,
-    tests_look_at_presence, trap_ends_at_its_exit, valued_input_has_register,
+    statement_assigns_what_it_names, statement_has_divisors_of_its_parts,
+    statement_mentions_what_it_names, statements_read_the_tick, statuses_are_as_given,
+    suspend_is_armed_after_its_start, suspended_local_keeps_its_value, tests_look_at_presence,
+    trap_ends_at_its_exit, valued_input_has_register,
 };

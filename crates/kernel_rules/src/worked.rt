@@ -53,6 +53,6 @@ pub use variables::{
     if_takes_one_branch, loop_begins_anew, operands_are_read, parallel_joins_variables,
     pausing_body_hands_on_variables, present_takes_one_branch, sequence_hands_on_variables,
     sequence_waits_for_its_first_part, statement_assigns_what_it_names,
-    statement_mentions_what_it_names,
+    statement_has_divisors_of_its_parts, statement_mentions_what_it_names,
 };
 pub use ways::{loops_of_each_form_wait, shape_tells_ends, shape_tells_exits};

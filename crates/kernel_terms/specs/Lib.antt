@@ -6,5 +6,6 @@ pub mod MayEnd
 pub mod Marks
 pub mod Limits
 pub mod Divisors
+pub mod DivisorRows
 pub mod WellFormed
 pub mod Systems

@@ -16,6 +16,7 @@ ghost use Rattle.kernel_terms.specs.declared.term.Term.{Term};
 ghost use Rattle.kernel_terms.specs.declared.term.Form.TheViews as form;
 ghost use Rattle.kernel_terms.specs.declared.term.Form.TheVariants as plain;
 ghost use Rattle.kernel_terms.specs.Divisors.{is_divisor, has_divisors};
+ghost use Rattle.kernel_terms.specs.DivisorRows.{by_zero};
 ghost use Rattle.kernel_terms.specs.Expressions.{expression, test, IsPresent, Not, Both, Either};
 ghost use Rattle.kernel_terms.specs.Expressions.{Literal, Variable, SignalValue, ChannelValue, Unary, Binary, Cast};
 ghost use Rattle.kernel_terms.specs.Statements.{statement, Nothing, Pause, Emit, Assign, If, Present};
@@ -123,6 +124,12 @@ pub fn divisors_are_literals()
         (Variable kind.Int 1)) ≡ false }
     ensures sum { has_divisors (Binary kind.Int op2.Add (Variable kind.Int 0) (Variable kind.Int 1))
         ≡ true }
-    ensures below { has_divisors (Cast kind.Int
-        (Binary kind.Int op2.Div (Variable kind.Int 0) (Literal kind.Int (pos 0)))) ≡ false }
+    ensures below { has_divisors (Cast kind.Int by_zero) ≡ false }
+    ensures below_minus { has_divisors (Unary kind.Int op1.Minus by_zero) ≡ false }
+    ensures left { has_divisors (Binary kind.Int op2.Add by_zero (Literal kind.Int (pos 1))) ≡ false }
+    ensures right { has_divisors (Binary kind.Int op2.Add (Literal kind.Int (pos 1)) by_zero) ≡ false }
+    ensures dividend { has_divisors (Binary kind.Int op2.Div by_zero (Literal kind.Int (pos 1))) ≡
+        false }
+    ensures allowed { has_divisors (Binary kind.Int op2.Div (Literal kind.Int (pos 0))
+        (Literal kind.Int (pos 1))) ≡ true }
 {}

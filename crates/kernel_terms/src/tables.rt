@@ -1,3 +1,7 @@
+ghost use Rattle.std.specs.Prelude.{◌≡◌};
+ghost use Rattle.kernel_terms.specs.TableEntries.{is_interface_of};
+ghost use Rattle.kernel_terms.specs.TableEntries as entries;
+
 use java_values::{Kind, Text};
 use sqlite_items::Items;
 
@@ -32,6 +36,24 @@ pub struct SignalInfo {
     pub sort: Sort,
     pub kind: Option<Kind>,
     pub combine: Combine,
+}
+
+impl SignalInfo {
+    /// Whether it is an interface signal of the domain: an input or an output of it.
+    pub fn is_of_interface(&self, domain: u64) -> bool
+        ensures { result ≡ is_interface_of domain self.now }
+    {
+        u64::from(self.domain) == domain && !is_local(self.sort)
+    }
+}
+
+fn is_local(sort: Sort) -> bool
+    ensures { result ≡ entries.is_local sort }
+{
+    match sort {
+        Sort::Local => true,
+        Sort::Input | Sort::Output => false,
+    }
 }
 
 /// A channel, with the domain that sends on it and the one that receives.

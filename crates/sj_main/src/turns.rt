@@ -12,7 +12,7 @@ ghost use Rattle.sj_main.specs.definitions.RunWeight.{domain_weight, end_weight,
 
 use crate::commands::Turns;
 use java_values::NoMemory;
-use kernel_terms::{ChannelInfo, SignalInfo, Sort, System, Tables};
+use kernel_terms::{ChannelInfo, SignalInfo, System, Tables};
 use std::alloc::Global;
 
 /// Whether each turn is one of so many domains. Rounds always are.
@@ -111,14 +111,8 @@ fn interface_count(signals: &[SignalInfo], domain: u32) -> usize
 {
     signals
         .iter()
-        .filter(|signal| is_interface_signal(signal, domain))
+        .filter(|signal| signal.is_of_interface(u64::from(domain)))
         .count()
-}
-
-fn is_interface_signal(signal: &SignalInfo, domain: u32) -> bool
-    ensures { result ≡ is_interface_of domain signal.now }
-{
-    signal.domain == domain && signal.sort != Sort::Local
 }
 
 // What the ends of the channels add.

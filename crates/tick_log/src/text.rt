@@ -4,7 +4,7 @@ ghost use Rattle.std.specs.Prelude.{◌≡◌, ◌-◌, ◌<◌, ◌≤◌, ◌+
 ghost use Rattle.std.specs.List.{All};
 ghost use Rattle.std.specs.Fmt.{signed_decimal};
 ghost use Rattle.kernel_terms.specs.Systems.{tables_of};
-ghost use Rattle.kernel_terms.specs.TableEntries.{is_local, is_interface_of, interface_of, signal_at};
+ghost use Rattle.kernel_terms.specs.TableEntries.{is_interface_of, interface_of, signal_at};
 ghost use Rattle.sj_io.specs.definitions.Causes.{Rose};
 ghost use Rattle.sj_io.specs.definitions.Sinks.{TakesMore, TakesPrefix};
 ghost use Rattle.kernel_terms.specs.Limits.{most_signals};
@@ -20,7 +20,7 @@ use crate::log::Log;
 use crate::printer::Printer;
 use crate::run::Run;
 use java_values::Kind;
-use kernel_terms::{ChannelInfo, MOST_SIGNALS, SignalInfo, Sort, System, Tables};
+use kernel_terms::{ChannelInfo, MOST_SIGNALS, SignalInfo, System, Tables};
 use sj_io::{Sink, WriteError};
 
 /// Prints the text of a run. For each domain a line with its number, its ticks and whether it ended,
@@ -87,27 +87,12 @@ fn list_interface(tables: &Tables, domain: u64, numbers: &mut [usize]) -> usize
 {
     let mut many = 0;
     for (i, signal) in tables.signals.as_slice().iter().enumerate() {
-        if is_interface_signal(signal, domain) {
+        if signal.is_of_interface(domain) {
             numbers[many] = i;
             many += 1;
         }
     }
     many
-}
-
-fn is_interface_signal(signal: &SignalInfo, domain: u64) -> bool
-    ensures { result ≡ is_interface_of domain signal.now }
-{
-    u64::from(signal.domain) == domain && !is_local_sort(signal.sort)
-}
-
-fn is_local_sort(sort: Sort) -> bool
-    ensures { result ≡ is_local sort }
-{
-    match sort {
-        Sort::Local => true,
-        Sort::Input | Sort::Output => false,
-    }
 }
 
 // `domain D ticks N` and how the domain stands.

@@ -1,7 +1,7 @@
 -- What the wires of a code tell.
-use Rattle.tick_code.specs.declared.equation.Equation.{Equation}
-use Rattle.tick_code.specs.Formulas.{IsOrdered, FitsFrame, Satisfies, is_on, number_at}
-use Rattle.tick_code.specs.declared.formula.Formula.TheVariants.{Const}
+use Rattle.plain_code.specs.declared.equation.Equation.{Equation}
+use Rattle.plain_code.specs.Formulas.{IsOrdered, FitsFrame, Satisfies, is_on, number_at}
+use Rattle.plain_code.specs.declared.formula.Formula.TheVariants.{Const}
 use Rattle.domain_core.specs.equations.Circuit.{Part, is_set, start, resume}
 use Rattle.domain_core.specs.declared.equations.circuit.Built.{Built}
 use Rattle.domain_core.specs.equations.BuiltForms.{Plain}

@@ -1,8 +1,8 @@
 -- The equations of one copy of a statement. Wire 0 is always off.
 use Rattle.std.specs.Prelude.{ℕ, ◌+◌, ℤ, pos, Bool, true, false, ◌&&◌, ◌||◌, cond, nat_eq, List, [], ◌∷◌, ◌++◌, length}
-use Rattle.tick_code.specs.Formulas.{is_on}
-use Rattle.tick_code.specs.declared.formula.Formula.TheVariants.{Get, And, Or, Not}
-use Rattle.tick_code.specs.declared.equation.Equation.{Equation}
+use Rattle.plain_code.specs.Formulas.{is_on}
+use Rattle.plain_code.specs.declared.formula.Formula.TheVariants.{Get, And, Or, Not}
+use Rattle.plain_code.specs.declared.equation.Equation.{Equation}
 use Rattle.domain_core.specs.equations.BuiltForms.{Plain, Nothing, Pause, Emit, Seq, Loop, Send, Receive, ends0, ends1}
 use Rattle.domain_core.specs.equations.BuiltRegisters.{registers}
 use Rattle.kernel_rules.specs.definitions.Signals.{Emission}

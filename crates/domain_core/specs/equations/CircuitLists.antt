@@ -3,7 +3,7 @@ use Rattle.std.specs.Prelude.{◌≡◌, ℕ, ◌+◌, Bool, true, false, List, 
 use Rattle.domain_core.specs.equations.BuiltForms.{Plain}
 use Rattle.domain_core.specs.equations.BuiltForms.{ends0, ends1}
 use Rattle.domain_core.specs.declared.equations.builder.Parts.{Parts}
-use Rattle.tick_code.specs.declared.formula.Formula.TheVariants.{Or}
+use Rattle.plain_code.specs.declared.formula.Formula.TheVariants.{Or}
 use Rattle.domain_core.specs.equations.BuiltRegisters.{registers}
 use Rattle.domain_core.specs.equations.Circuit.{Part, joined, joined_if, start, resume}
 

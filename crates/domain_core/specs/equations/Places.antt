@@ -1,6 +1,6 @@
 -- Finding the sends and receives of a statement.
 use Rattle.std.specs.Prelude.{◌≡◌, ℕ, ◌+◌, ℤ, List, [], ◌∷◌, ◌++◌}
-use Rattle.tick_code.specs.declared.end_place.EndPlace.{EndPlace}
+use Rattle.plain_code.specs.declared.end_place.EndPlace.{EndPlace}
 use Rattle.domain_core.specs.declared.step.ends_of.EndOf.{EndOf}
 use Rattle.domain_core.specs.declared.equations.sites.Found.{Found}
 use Rattle.domain_core.specs.equations.BuiltForms.{Plain, Seq, Loop, Send, Receive}

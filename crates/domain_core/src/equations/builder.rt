@@ -13,7 +13,7 @@ use crate::equations::built_forms::{
 };
 use java_values::NoMemory;
 use kernel_terms::{Form, Term};
-use tick_code::{Equation, Formula};
+use plain_code::{Equation, Formula};
 use tick_tree::{ends0, ends1};
 
 /// Equations, and the wires that set registers and emit signals, each with the number that it sets

@@ -2,14 +2,14 @@
 
 ghost use Rattle.std.specs.Prelude.{◌≡◌, ◌<◌, ◌++◌, ℕ, length, map, IfOk, slice_index};
 ghost use Rattle.std.specs.List.{All};
-ghost use Rattle.tick_code.specs.Formulas.{IsOrdered, FitsFrame};
+ghost use Rattle.plain_code.specs.Formulas.{IsOrdered, FitsFrame};
 ghost use Rattle.domain_core.specs.equations.Circuit.{Part};
 ghost use Rattle.domain_core.specs.equations.BuiltCodes.{Below, TellsEither, Merges, Shows, Steps, CanStep, head};
 
 use crate::equations::builder::{Parts, next_wire};
 use java_values::NoMemory;
+use plain_code::{Code, Equation, Formula};
 use std::alloc::Global;
-use tick_code::{Code, Equation, Formula};
 
 // A wire that is on where either is. It is the second, where the first is wire 0, which is off.
 #[tactic(auto, using(crate::proofs::lemmas::equations::CircuitMerging::either_second))]

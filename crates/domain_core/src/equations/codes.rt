@@ -20,8 +20,8 @@ use crate::equations::sites::{Found, find};
 use crate::step::ends_of::EndOf;
 use java_values::NoMemory;
 use kernel_terms::Term;
+use plain_code::{EndPlace, Equation, Formula};
 use std::alloc::Global;
-use tick_code::{EndPlace, Equation, Formula};
 
 // The wires that are off and on.
 fn begin(alloc: Global) -> Result<Parts, NoMemory>

@@ -12,7 +12,7 @@ use crate::equations::built_forms::{count, sequence_parts_are_built};
 use crate::step::ends_of::EndOf;
 use java_values::NoMemory;
 use kernel_terms::{Expr, ExprForm, Form, Term};
-use tick_code::EndPlace;
+use plain_code::EndPlace;
 
 /// The sends and receives of a statement, and the value registers of its sends with their literals.
 #[derive(Drop)]

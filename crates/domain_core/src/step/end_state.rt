@@ -13,7 +13,7 @@ ghost use Rattle.domain_core.specs.step.JoinLists.{StampsFit};
 
 use crate::step::ends_of::EndOf;
 use cell_core::{Joined, Side};
-use tick_code::EndPlace;
+use plain_code::EndPlace;
 
 // Sets `met` at the place, if it is on and a join was answered at its end.
 fn meet_at(place: EndPlace, answers: &[Option<Joined>], registers: &mut Vec<i64>)

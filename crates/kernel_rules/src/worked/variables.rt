@@ -3,6 +3,8 @@
 ghost use Rattle.std.specs.Prelude.{◌≡◌, ℕ, ℤ, true, false, ◌||◌, [], ◌∷◌, ◌++◌, map};
 ghost use Rattle.std.specs.List.{list_all, list_any};
 ghost use Rattle.kernel_terms.specs.declared.tables.Tables.{Tables};
+ghost use Rattle.kernel_terms.specs.Divisors.{divisors_are_allowed};
+ghost use Rattle.kernel_terms.specs.DivisorRows.{by_zero, by_two};
 ghost use Rattle.kernel_terms.specs.Expressions.{IsPresent};
 ghost use Rattle.kernel_terms.specs.Statements.{Abort, Assign, Exit, If, Loop, Nothing, Par, Pause, Present};
 ghost use Rattle.kernel_terms.specs.Statements.{Receive, Seq, Suspend, Trap};
@@ -222,6 +224,14 @@ pub fn statement_assigns_what_it_names()
     ensures around { list_all (λ p. writes p 1) (forms_around (assign 1 5)) ≡ true }
     ensures around_other { list_any (λ p. writes p 0) (forms_around (assign 1 5)) ≡ false }
     ensures alone { list_any (λ p. writes p 0) forms_alone ≡ false }
+{}
+
+/// A divisor that isn't allowed is found in each form that has an expression, and in each part of a statement.
+pub fn statement_has_divisors_of_its_parts()
+    ensures own { list_any divisors_are_allowed (forms_with by_zero) ≡ false }
+    ensures own_allowed { list_all divisors_are_allowed (forms_with by_two) ≡ true }
+    ensures around { list_any divisors_are_allowed (forms_around (Assign 0 by_zero)) ≡ false }
+    ensures around_allowed { list_all divisors_are_allowed (forms_around (Assign 0 by_two)) ≡ true }
 {}
 
 /// A statement mentions the variables, signals and channels that it or one of its parts names, and no

@@ -6,10 +6,10 @@ use Rattle.std.proofs.lemmas.List.{get_or-map}
 use Rattle.std.proofs.Math.Seq.{take-suc}
 use Rattle.std.proofs.lemmas.Bool.{cases_lt}
 use Rattle.std.proofs.lemmas.Bool.Decides.{nat_tests}
-use Rattle.tick_code.specs.declared.equation.Equation.{Equation}
-use Rattle.tick_code.specs.declared.formula.Formula.TheVariants.{Or}
-use Rattle.tick_code.specs.Formulas.{FitsFrame, Satisfies, is_on}
-use Rattle.tick_code.proofs.SolvingLemmas.{satisfies_front}
+use Rattle.plain_code.specs.declared.equation.Equation.{Equation}
+use Rattle.plain_code.specs.declared.formula.Formula.TheVariants.{Or}
+use Rattle.plain_code.specs.Formulas.{FitsFrame, Satisfies, is_on}
+use Rattle.plain_code.proofs.SolvingLemmas.{satisfies_front}
 use Rattle.domain_core.specs.equations.Circuit.{Part, is_set}
 use Rattle.domain_core.specs.equations.BuiltCodes.{Below, TellsEither, Merges, Shows, head}
 use Rattle.domain_core.proofs.lemmas.equations.CircuitPairs.{set-append, or_off}

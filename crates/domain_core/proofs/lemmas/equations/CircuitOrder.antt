@@ -1,9 +1,9 @@
 -- The equations of a copy stand in order, and its pairs name wires and numbers that there are.
 use Rattle.std.proofs.Common.{◌≡◌, ℕ, ◌+◌, ◌<◌, ◌≤◌, Bool, true, false, List, [], ◌∷◌, ◌++◌, length, arith, refl, subst, length-append}
 use Rattle.domain_core.specs.equations.BuiltForms.{Plain, Nothing, Pause, Emit, Seq, Loop, Send, Receive, ends0, ends1}
-use Rattle.tick_code.specs.declared.equation.Equation.{Equation}
-use Rattle.tick_code.specs.declared.formula.Formula.TheVariants.{Or}
-use Rattle.tick_code.specs.Formulas.{IsOrdered, FitsFrame}
+use Rattle.plain_code.specs.declared.equation.Equation.{Equation}
+use Rattle.plain_code.specs.declared.formula.Formula.TheVariants.{Or}
+use Rattle.plain_code.specs.Formulas.{IsOrdered, FitsFrame}
 use Rattle.domain_core.specs.equations.BuiltRegisters.{registers}
 use Rattle.domain_core.specs.equations.BuiltCodes.{Below}
 use Rattle.domain_core.specs.equations.BuiltLimits.{EmitsBelow}

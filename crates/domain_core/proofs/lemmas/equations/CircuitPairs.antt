@@ -2,7 +2,7 @@
 use Rattle.std.proofs.Common.{◌≡◌, ℕ, ◌<◌, ◌≤◌, ℤ, Bool, true, false, ◌&&◌, ◌||◌, cond, nat_eq, List, [], ◌∷◌, ◌++◌, ◌⊎◌, inl, inr, arith, refl, sym, ap, ◌∙◌}
 use Rattle.std.proofs.Math.Bool.{or_assoc}
 use mathlib.Core.Path.{fun_ext}
-use Rattle.tick_code.specs.Formulas.{is_on}
+use Rattle.plain_code.specs.Formulas.{is_on}
 use Rattle.domain_core.specs.equations.Circuit.{is_set, emitted}
 use Rattle.kernel_rules.specs.definitions.Signals.{Emission}
 

@@ -3,7 +3,7 @@ use Rattle.std.proofs.Common.{◌≡◌, ℕ, ◌+◌, ◌^◌, ◌<◌, List, [
 use Rattle.std.specs.Prelude.{Result, Ok, Err, IfOk}
 use Rattle.java_values.specs.declared.no_memory.NoMemory.{NoMemory}
 use Rattle.domain_core.specs.equations.BuiltForms.{Plain}
-use Rattle.tick_code.specs.Formulas.{IsOrdered, FitsFrame}
+use Rattle.plain_code.specs.Formulas.{IsOrdered, FitsFrame}
 use Rattle.domain_core.specs.declared.equations.builder.Parts.{Parts}
 use Rattle.domain_core.specs.declared.equations.circuit.Built.{Built}
 use Rattle.domain_core.specs.equations.BuiltRegisters.{registers}

@@ -4,10 +4,10 @@ use Rattle.std.proofs.lemmas.List.{append-nil}
 use Rattle.std.proofs.lemmas.Bool.Decides.{nat_tests}
 use Rattle.std.proofs.lemmas.Bool.{true≢false}
 use Rattle.domain_core.specs.equations.BuiltForms.{Plain, Nothing, Pause, Emit, Seq, Loop, Send, Receive, whole, ends0, ends1, LoopsWait}
-use Rattle.tick_code.specs.declared.equation.Equation.{Equation}
-use Rattle.tick_code.specs.declared.formula.Formula.TheVariants.{Or}
-use Rattle.tick_code.specs.Formulas.{Satisfies, is_on, is_true, of_bool}
-use Rattle.tick_code.proofs.SolvingLemmas.{satisfies_front, satisfies_back}
+use Rattle.plain_code.specs.declared.equation.Equation.{Equation}
+use Rattle.plain_code.specs.declared.formula.Formula.TheVariants.{Or}
+use Rattle.plain_code.specs.Formulas.{Satisfies, is_on, is_true, of_bool}
+use Rattle.plain_code.proofs.SolvingLemmas.{satisfies_front, satisfies_back}
 use Rattle.kernel_terms.specs.declared.tables.Tables.{Tables}
 use Rattle.kernel_terms.specs.Statements.{Stmt}
 use Rattle.kernel_terms.specs.Statements as rules

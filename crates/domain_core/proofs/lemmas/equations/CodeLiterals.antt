@@ -3,8 +3,8 @@ use Rattle.std.proofs.Common.{◌≡◌, ℕ, zero, suc, ◌+◌, ◌<◌, ◌�
 use Rattle.std.proofs.Math.ListN.{set}
 use Rattle.std.proofs.Math.Seq.{drop-cons}
 use Rattle.java_values.specs.Arithmetic.{is_true}
-use Rattle.tick_code.specs.Formulas.{is_on, number_at}
-use Rattle.tick_code.specs.Formulas as code
+use Rattle.plain_code.specs.Formulas.{is_on, number_at}
+use Rattle.plain_code.specs.Formulas as code
 use Rattle.domain_core.specs.equations.BuiltForms.{Plain, Nothing, Pause, Emit, Seq, Loop, Send, Receive}
 use Rattle.domain_core.specs.equations.BuiltRegisters.{registers, literals, HoldsLiteral}
 use Rattle.domain_core.specs.equations.BuiltCodes.{written, AreBelow}

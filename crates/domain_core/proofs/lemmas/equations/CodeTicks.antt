@@ -9,11 +9,11 @@ use Rattle.kernel_terms.specs.Statements.{Stmt}
 use Rattle.kernel_terms.specs.Statements as rules
 use Rattle.kernel_rules.specs.definitions.Signals.{Emission, Env, is_emitted}
 use Rattle.kernel_rules.specs.definitions.Registers as frame
-use Rattle.tick_code.specs.declared.equation.Equation.{Equation}
-use Rattle.tick_code.specs.declared.formula.Formula.{Formula}
-use Rattle.tick_code.specs.declared.formula.Formula.TheVariants.{Const, Get, And, Or, Not}
-use Rattle.tick_code.specs.Formulas.{FitsFrame, ReadsFrame, Satisfies, is_on, is_true, number_at}
-use Rattle.tick_code.proofs.SolvingLemmas.{satisfies_back}
+use Rattle.plain_code.specs.declared.equation.Equation.{Equation}
+use Rattle.plain_code.specs.declared.formula.Formula.{Formula}
+use Rattle.plain_code.specs.declared.formula.Formula.TheVariants.{Const, Get, And, Or, Not}
+use Rattle.plain_code.specs.Formulas.{FitsFrame, ReadsFrame, Satisfies, is_on, is_true, number_at}
+use Rattle.plain_code.proofs.SolvingLemmas.{satisfies_back}
 use Rattle.domain_core.specs.equations.BuiltForms.{Plain, whole}
 use Rattle.domain_core.specs.equations.BuiltRegisters.{registers, literals, HoldsLiteral}
 use Rattle.domain_core.specs.equations.Circuit.{Part, start, resume, is_set, emitted}

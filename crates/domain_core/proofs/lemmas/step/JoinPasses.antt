@@ -9,7 +9,7 @@ use Rattle.kernel_rules.specs.definitions.Signals.{put_at}
 use Rattle.cell_core.specs.declared.moves.Side.{Side}
 use Rattle.cell_core.specs.declared.moves.Side.TheVariants.{Sender, Receiver}
 use Rattle.cell_core.specs.declared.moves.Joined.{Joined}
-use Rattle.tick_code.specs.declared.end_place.EndPlace.{EndPlace}
+use Rattle.plain_code.specs.declared.end_place.EndPlace.{EndPlace}
 use Rattle.domain_core.specs.declared.step.ends_of.EndOf.{EndOf}
 use Rattle.domain_core.specs.equations.BuiltForms.{Plain, Nothing, Pause, Emit, Seq, Loop, Send, Receive}
 use Rattle.domain_core.specs.equations.BuiltRegisters.{registers}

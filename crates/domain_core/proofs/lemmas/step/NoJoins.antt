@@ -3,7 +3,7 @@ use Rattle.std.proofs.Common.{◌≡◌, ℕ, zero, suc, ◌^◌, ◌<◌, ◌+�
 use Rattle.std.specs.Prelude.{is_some}
 use Rattle.std.proofs.lemmas.Bool.{cases_lt, true≢false}
 use Rattle.std.proofs.lemmas.List.{get_or_past, get_or_read}
-use Rattle.tick_code.specs.declared.end_place.EndPlace.{EndPlace}
+use Rattle.plain_code.specs.declared.end_place.EndPlace.{EndPlace}
 use Rattle.cell_core.specs.declared.moves.Joined.{Joined}
 use Rattle.domain_core.specs.declared.step.ends_of.EndOf.{EndOf}
 use Rattle.domain_core.specs.declared.step.ends_of.EndJoin.{EndJoin}

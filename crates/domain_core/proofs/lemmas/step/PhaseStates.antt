@@ -16,7 +16,7 @@ use Rattle.cell_core.specs.declared.moves.Side.{Side}
 use Rattle.cell_core.specs.declared.moves.Side.TheVariants.{Sender, Receiver}
 use Rattle.cell_core.specs.declared.moves.Joined.{Joined}
 use Rattle.cell_core.specs.definitions.Ends.{StandingOffer, EndView, ValueFits, JoinsOffer, IsOffer}
-use Rattle.tick_code.specs.declared.end_place.EndPlace.{EndPlace}
+use Rattle.plain_code.specs.declared.end_place.EndPlace.{EndPlace}
 use Rattle.kernel_terms.specs.Marks.{Going, Ended}
 use Rattle.domain_core.specs.declared.step.ends_of.EndOf.{EndOf}
 use Rattle.domain_core.specs.equations.BuiltForms.{Plain, Nothing, Pause, Emit, Seq, Loop, Send, Receive, whole}

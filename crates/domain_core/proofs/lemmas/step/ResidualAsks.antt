@@ -10,7 +10,7 @@ use Rattle.kernel_terms.specs.Statements as rules
 use Rattle.kernel_rules.specs.definitions.Registers.{registers as all_registers, live, residual, LivesApart}
 use Rattle.cell_core.specs.declared.moves.Side.{Side}
 use Rattle.cell_core.specs.declared.moves.Side.TheVariants.{Sender, Receiver}
-use Rattle.tick_code.specs.declared.end_place.EndPlace.{EndPlace}
+use Rattle.plain_code.specs.declared.end_place.EndPlace.{EndPlace}
 use Rattle.domain_core.specs.declared.step.ends_of.EndOf.{EndOf}
 use Rattle.domain_core.specs.equations.BuiltForms.{Plain, Nothing, Pause, Emit, Seq, Loop, Send, Receive, whole}
 use Rattle.domain_core.specs.equations.BuiltRegisters.{registers}

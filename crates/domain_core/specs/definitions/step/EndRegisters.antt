@@ -9,7 +9,7 @@ use Rattle.kernel_terms.specs.TableEntries.{signal_at}
 use Rattle.kernel_rules.specs.definitions.Signals.{put_at}
 use Rattle.kernel_rules.specs.definitions.Registers.{registers, value_kinds, first_last}
 use Rattle.cell_core.specs.declared.moves.Joined.{Joined}
-use Rattle.tick_code.specs.declared.end_place.EndPlace.{EndPlace}
+use Rattle.plain_code.specs.declared.end_place.EndPlace.{EndPlace}
 use Rattle.domain_core.specs.declared.step.ends_of.EndOf.{EndOf}
 use Rattle.domain_core.specs.definitions.step.EndCalls.{end_at}
 use Rattle.domain_core.specs.definitions.step.Domains.{is_receiver}

@@ -1,6 +1,6 @@
 use Rattle.std.proofs.Common.{◌≡◌, ℕ, ◌<◌, ◌≤◌, length, false}
 use Rattle.std.specs.Prelude.{slice_index, slice_index_or}
-use Rattle.tick_code.specs.Formulas.{is_on, number_at}
+use Rattle.plain_code.specs.Formulas.{is_on, number_at}
 use Rattle.domain_core.proofs.equations.circuit.step.Given as goal
 
 abbrev pub invariant-loop-i : goal.invariant-loop-i

@@ -1,6 +1,6 @@
 use Rattle.std.proofs.Common.{subst, sym, length}
 use Rattle.domain_core.specs.equations.BuiltForms.{plain}
-use Rattle.tick_code.specs.Formulas.{FitsFrame}
+use Rattle.plain_code.specs.Formulas.{FitsFrame}
 use Rattle.std.specs.Prelude.{IfOk}
 use Rattle.domain_core.specs.equations.Circuit.{resume}
 use Rattle.domain_core.specs.equations.BuiltCodes.{Below, Shows, head}

@@ -2,10 +2,10 @@
 use Rattle.std.proofs.Common.{◌≡◌, ◌≢◌, ℕ, zero, suc, ◌+◌, ◌<◌, ◌≤◌, ℤ, pos, ◌&&◌, ◌||◌, not, List, [], ◌∷◌, ◌++◌, length, take, get_or, refl, sym, ap, ◌∙◌, subst, arith, get_or-set_other, get_or-set_same}
 use Rattle.std.proofs.Math.ListN.{set}
 use Rattle.std.proofs.Math.Seq.{take-suc}
-use Rattle.tick_code.specs.declared.formula.Formula.{Formula}
-use Rattle.tick_code.specs.declared.formula.Formula.TheVariants.{Const, Get, And, Or, Not}
-use Rattle.tick_code.specs.declared.equation.Equation.{Equation}
-use Rattle.tick_code.specs.Formulas.{IsOrdered, Satisfies, FitsFrame, ReadsBelow, ReadsFrame, is_true, of_bool, is_on, number_at, formula_value}
+use Rattle.plain_code.specs.declared.formula.Formula.{Formula}
+use Rattle.plain_code.specs.declared.formula.Formula.TheVariants.{Const, Get, And, Or, Not}
+use Rattle.plain_code.specs.declared.equation.Equation.{Equation}
+use Rattle.plain_code.specs.Formulas.{IsOrdered, Satisfies, FitsFrame, ReadsBelow, ReadsFrame, is_true, of_bool, is_on, number_at, formula_value}
 
 pub ordered_at : (es : List Equation) (n k : ℕ) (d : Equation) → IsOrdered n es → k < length es → ((get_or es k d).wire ≡ n + k) × ReadsBelow (n + k) (get_or es k d).formula
 ordered_at [] n k d h lt = absurd (omega arith)

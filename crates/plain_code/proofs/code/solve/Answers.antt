@@ -1,12 +1,12 @@
 use Rattle.std.proofs.Common.{◌≡◌, ◌+◌, arith, subst, sym, ◌∙◌, add-one}
 use Rattle.std.proofs.lemmas.Int.{to_z-of_z}
 use Rattle.std.proofs.Common.{rules, to_z, of_z, w64, get_or, length-set}
-use Rattle.tick_code.specs.Formulas.{ReadsBelow}
-use Rattle.tick_code.specs.declared.equation.Equation.{Equation}
-use Rattle.tick_code.specs.declared.formula.Formula.TheVariants.{Const}
-use Rattle.tick_code.proofs.SolvingLemmas.{ordered_at, fits_at, solve_step}
+use Rattle.plain_code.specs.Formulas.{ReadsBelow}
+use Rattle.plain_code.specs.declared.equation.Equation.{Equation}
+use Rattle.plain_code.specs.declared.formula.Formula.TheVariants.{Const}
+use Rattle.plain_code.proofs.SolvingLemmas.{ordered_at, fits_at, solve_step}
 use Rattle.std.proofs.Common.{pos}
-use Rattle.tick_code.proofs.code.solve.Goals as goal
+use Rattle.plain_code.proofs.code.solve.Goals as goal
 
 abbrev none : Equation
 none = record { wire = 0; formula = Const (pos 0) }

@@ -1,8 +1,8 @@
 -- What a list of equations says of its wires.
 use Rattle.std.specs.Prelude.{◌≡◌, ℕ, ◌+◌, ◌<◌, ℤ, pos, Bool, true, false, ◌&&◌, ◌||◌, not, List, [], ◌∷◌, slice_index_or, zero}
-use Rattle.tick_code.specs.declared.formula.Formula.{Formula}
-use Rattle.tick_code.specs.declared.formula.Formula.TheVariants.{Const, Get, And, Or, Not}
-use Rattle.tick_code.specs.declared.equation.Equation.{Equation}
+use Rattle.plain_code.specs.declared.formula.Formula.{Formula}
+use Rattle.plain_code.specs.declared.formula.Formula.TheVariants.{Const, Get, And, Or, Not}
+use Rattle.plain_code.specs.declared.equation.Equation.{Equation}
 
 -- a number other than 0 counts as true
 abbrev pub is_true : ℤ → Bool

@@ -1,5 +1,5 @@
 ghost use Rattle.std.specs.Prelude.{◌≡◌, ◌<◌, ◌≤◌, length, IfSome, IsSome, IsTrue, ◌↔◌};
-ghost use Rattle.tick_code.specs.Formulas.{IsOrdered, Satisfies, FitsFrame, ReadsBelow, ReadsFrame, is_true, of_bool, formula_value};
+ghost use Rattle.plain_code.specs.Formulas.{IsOrdered, Satisfies, FitsFrame, ReadsBelow, ReadsFrame, is_true, of_bool, formula_value};
 
 use crate::equation::Equation;
 use crate::formula::Formula;
@@ -13,11 +13,11 @@ pub struct Code {
 
 impl Model for Code {
     ghost use Rattle.std.specs.Prelude.{List};
-    ghost use Rattle.tick_code.specs.declared.equation.Equation.{Equation};
+    ghost use Rattle.plain_code.specs.declared.equation.Equation.{Equation};
 
     ghost Value = { List Equation };
 
-    ghost use Rattle.tick_code.specs.Formulas.{IsOrdered};
+    ghost use Rattle.plain_code.specs.Formulas.{IsOrdered};
 
     ghost view = { λ c. c.equations.items };
 
