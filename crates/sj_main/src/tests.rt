@@ -105,6 +105,17 @@ fn three_joins_of_one_channel(rt: HostRuntime) -> Result<(), Fail> {
 }
 
 #[test]
+fn numbers_are_sent_in_parentheses_and_the_least_one(rt: HostRuntime) -> Result<(), Fail> {
+    prints(
+        &rt,
+        rt.alloc(),
+        b"system{interface{output signal B;int channel C;}{send C((1));send C(-2147483648);}><{receive C;emit B;receive C;emit B;}}",
+        "rr:3",
+        b"domain 0 ticks 3 ended\n1 @1\n2 @3\n3 @5\ndomain 1 ticks 3 ended\n1 @1\n2 @3 B\n3 @5 B\nchannel C 2\n1 1 1 1 @2\n2 -2147483648 2 2 @4\n",
+    )
+}
+
+#[test]
 fn joins_of_three_domains(rt: HostRuntime) -> Result<(), Fail> {
     prints(
         &rt,
@@ -361,6 +372,152 @@ fn refuses_names_and_kinds_at_their_places(rt: HostRuntime) -> Result<(), Fail> 
     ];
     for (source, line) in cases {
         refuses(&rt, rt.alloc(), source, line)?;
+    }
+    Ok(())
+}
+
+// In each source the name stands for something, but not there, or the channel has another domain there.
+#[test]
+fn refuses_names_out_of_their_place(rt: HostRuntime) -> Result<(), Fail> {
+    let cases: [(&[u8], &[u8]); 10] = [
+        (
+            b"system{interface{}{{signal A;}emit A;}}",
+            b"refused Unknown at 35\n",
+        ),
+        (
+            b"system{interface{}{trap(T){emit T;}}}",
+            b"refused Unknown at 32\n",
+        ),
+        (
+            b"system{interface{}{trap(T){}exit(T);}}",
+            b"refused Unknown at 33\n",
+        ),
+        (b"system{interface{}{int x=x;}}", b"refused Unknown at 25\n"),
+        (
+            b"system{interface{}{signal A;{int A=1;}}}",
+            b"refused Twice at 33\n",
+        ),
+        (
+            b"system{interface{}{emit A;}><{emit B;signal B;}}",
+            b"refused Unknown at 24\n",
+        ),
+        (
+            b"system{interface{input signal A;}{present(A){}}><{emit A;}}",
+            b"refused SignalShared at 55\n",
+        ),
+        (
+            b"system{interface{int channel C;}{send C(1);}><{receive C;}><{send C(2);}}",
+            b"refused ChannelEnds at 66\n",
+        ),
+        (
+            b"system{interface{int channel C;}{send C(1);}><{receive C;}><{if(#C==1){}}}",
+            b"refused ChannelEnds at 65\n",
+        ),
+        (
+            b"system{interface{int channel C;}{send C(1);}><{if(#C==1){}}}",
+            b"refused ChannelEnds at 29\n",
+        ),
+    ];
+    for (source, line) in cases {
+        refuses(&rt, rt.alloc(), source, line)?;
+    }
+    Ok(())
+}
+
+// In each source all names are right.
+#[test]
+fn refuses_each_use_of_a_wrong_kind(rt: HostRuntime) -> Result<(), Fail> {
+    let cases: [(&[u8], &[u8]); 13] = [
+        (b"system{interface{}{if(1){}}}", b"refused Mismatch at 22\n"),
+        (
+            b"system{interface{output signal A;}{emit A(1);}}",
+            b"refused Mismatch at 40\n",
+        ),
+        (
+            b"system{interface{output int signal A;}{emit A;}}",
+            b"refused Mismatch at 44\n",
+        ),
+        (
+            b"system{interface{input signal A;}{int x=1+#A;}}",
+            b"refused Mismatch at 43\n",
+        ),
+        (
+            b"system{interface{output boolean signal A combine max;}{}}",
+            b"refused Mismatch at 49\n",
+        ),
+        (
+            b"system{interface{}{boolean b=true;b+=1;}}",
+            b"refused Mismatch at 35\n",
+        ),
+        (
+            b"system{interface{}{byte b=-129;}}",
+            b"refused Mismatch at 26\n",
+        ),
+        (
+            b"system{interface{}{int x=1L;}}",
+            b"refused Mismatch at 25\n",
+        ),
+        (
+            b"system{interface{int channel C;}{send C(true);}><{receive C;}}",
+            b"refused Mismatch at 40\n",
+        ),
+        (
+            b"system{interface{}{int x=(int)true;}}",
+            b"refused Mismatch at 25\n",
+        ),
+        (
+            b"system{interface{}{int x=1+(2<3)*4;}}",
+            b"refused Mismatch at 32\n",
+        ),
+        (
+            b"system{interface{}{int x=1;int y=2/x;}}",
+            b"refused Divisor at 35\n",
+        ),
+        (
+            b"system{interface{}{int x=1;x/=-(2);}}",
+            b"refused Divisor at 30\n",
+        ),
+    ];
+    for (source, line) in cases {
+        refuses(&rt, rt.alloc(), source, line)?;
+    }
+    Ok(())
+}
+
+// Right names and kinds in forms that don't run yet are refused for the forms alone.
+#[test]
+fn refuses_no_right_name_or_kind(rt: HostRuntime) -> Result<(), Fail> {
+    let cases: [&[u8]; 4] = [
+        b"system{interface{}{byte b=(-(128));short s='a';long l=1;char c=65535;}}",
+        b"system{interface{}{int y=2/(-2)+2%'a'/-2147483648;y%=(3L);}}",
+        b"system{interface{}{{signal A;emit A;}{int A=1;A<<=2L;}trap(A){exit(A);}}}",
+        b"system{interface{input int signal I;output boolean signal O combine ^;long channel C;}{int x=1;trap(T){abort(immediate I||!I){send C(x);exit(T);}}}><{receive C;every(O){sustain O(#C>0L&&!false);}}}",
+    ];
+    for source in cases {
+        refuses(&rt, rt.alloc(), source, b"refused Later\n")?;
+    }
+    Ok(())
+}
+
+// A domain with so many variables.
+fn variables_source(alloc: Global, count: u32) -> Result<String, Fail> {
+    let mut source = String::from_str(alloc, "system{interface{}{")?;
+    for number in 0..count {
+        source.push_str(format!(in alloc; "int v{number}=1;")?.as_str())?;
+    }
+    source.push_str("}}")?;
+    Ok(source)
+}
+
+#[test]
+fn a_domain_has_at_most_1_024_variables(rt: HostRuntime) -> Result<(), Fail> {
+    let cases: [(u32, &[u8]); 2] = [
+        (1024, b"refused Later\n"),
+        (1025, b"refused TooMany at 11201\n"),
+    ];
+    for (count, line) in cases {
+        let source = variables_source(rt.alloc(), count)?;
+        refuses(&rt, rt.alloc(), source.as_bytes(), line)?;
     }
     Ok(())
 }
