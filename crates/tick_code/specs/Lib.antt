@@ -1,2 +1,3 @@
+pub mod BuiltKinds
 pub mod Operands
 pub mod WellKinded

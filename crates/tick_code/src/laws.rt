@@ -1,0 +1,15 @@
+//! What well-kinded equations say of their solutions.
+
+ghost use Rattle.std.specs.Prelude.{ℕ, ◌<◌, ℤ, List, length};
+ghost use Rattle.java_values.specs.declared.kind.Kind.{Kind};
+ghost use Rattle.wire_code.specs.declared.equation.Equation.{Equation};
+ghost use Rattle.wire_code.specs.Formulas.{IsOrdered, Satisfies, number_at};
+ghost use Rattle.tick_code.specs.WellKinded.{WellKinded, LieIn, InClass};
+
+/// Where the frame's numbers lie in their kinds, each wire of any solution lies in its class.
+pub fn solutions_lie_in_their_classes()
+    ensures { (kinds : List Kind) (frame : List ℤ) (es : List Equation) (w : ℕ → ℤ)
+        → LieIn kinds frame → IsOrdered 0 es → (well : WellKinded kinds es)
+        → Satisfies (number_at frame) w es
+        → (k : ℕ) → k < length es → InClass (well.classes k) (w k) }
+{}
