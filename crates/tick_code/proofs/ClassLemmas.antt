@@ -11,6 +11,7 @@ use Rattle.wire_code.specs.declared.formula.Formula.{Formula}
 use Rattle.wire_code.specs.declared.formula.Formula.TheVariants.{Const, Get, And, Or, Not, Apply1, Apply2, Cast, Choose}
 use Rattle.wire_code.specs.declared.equation.Equation.{Equation}
 use Rattle.wire_code.specs.Formulas.{Satisfies, IsOrdered, ReadsBelow, formula_value, number_at, is_on}
+use Rattle.wire_code.proofs.SolutionLemmas.{less_or_not, step_below}
 use Rattle.tick_code.specs.WellKinded.{Class, Of, Constant, InClass, Fits, IsOf, Gives, IsSafeDivisor, DividesSafely, IsEither, HasClass, HaveClasses, LieIn}
 use Rattle.tick_code.specs.Operands.{HasOperands}
 use Rattle.tick_code.proofs.RangeLemmas.{truth_range}
@@ -71,20 +72,6 @@ value_in_class kinds ns all c w (Cast k l a) d n lie h r below = in_kind d l (ca
 value_in_class kinds ns all c w (Choose t a b) d n lie h r below =
     cond_in (is_on w t) d (w a) (w b) (either_first (c a) (c b) d (w a) h.1 (below a r.1)) (either_second (c a) (c b) d (w b) h.1 (below b r.2))
 
-step_below : (c : ℕ → Class) (w : ℕ → ℤ) (n : ℕ) → ((j : ℕ) → j < n → InClass (c j) (w j)) → InClass (c n) (w n) → (j : ℕ) → (j < n) ⊎ (n ≤ j) → j < n + 1 → InClass (c j) (w j)
-step_below c w n below own j (inl lt) h = below j lt
-step_below c w n below own j (inr le) h =
-    let e : n ≡ j = omega arith in subst (λ k. InClass (c k) (w k)) e own
-
-one_more : (j n : ℕ) → (j < n) ⊎ (n ≤ j) → (suc j < suc n) ⊎ (suc n ≤ suc j)
-one_more j n (inl h) = inl (omega arith)
-one_more j n (inr h) = inr (omega arith)
-
-less_or_not : (j n : ℕ) → (j < n) ⊎ (n ≤ j)
-less_or_not j zero = inr (omega arith)
-less_or_not zero (suc n) = inl (omega arith)
-less_or_not (suc j) (suc n) = one_more j n (less_or_not j n)
-
 -- each wire that satisfies its equation lies in its class
 pub wires_in_classes : (kinds : List Kind) (ns : List ℤ) (all : List Equation) (c : ℕ → Class) (w : ℕ → ℤ) (es : List Equation) (n : ℕ) → LieIn kinds ns → IsOrdered n es → HaveClasses kinds all c es → Satisfies (number_at ns) w es → ((j : ℕ) → j < n → InClass (c j) (w j)) → (j : ℕ) → j < n + length es → InClass (c j) (w j)
 wires_in_classes kinds ns all c w [] n lie o h s below j lt = below j (omega arith)
@@ -92,7 +79,7 @@ wires_in_classes kinds ns all c w (e ∷ es) n lie o h s below j lt =
     let value = value_in_class kinds ns all c w e.formula (c e.wire) n lie h.0 o.1 below in
     let at = subst (λ x. InClass (c e.wire) x) (sym s.0) value in
     let own = subst (λ k. InClass (c k) (w k)) o.0 at in
-    wires_in_classes kinds ns all c w es (n + 1) lie o.2 h.1 s.1 (λ i lti. step_below c w n below own i (less_or_not i n) lti) j (omega arith)
+    wires_in_classes kinds ns all c w es (n + 1) lie o.2 h.1 s.1 (λ i lti. step_below (λ k. InClass (c k) (w k)) n below own i (less_or_not i n) lti) j (omega arith)
 
 gives_class : (kinds : List Kind) (all : List Equation) (c : ℕ → Class) (es : List Equation) (b : ℕ) (m : ℤ) → HaveClasses kinds all c es → Gives es b (Const m) → c b ≡ Constant m
 gives_class kinds all c [] b m h g = absurd g

@@ -1,1 +1,2 @@
 pub mod EquationLemmas
+pub mod SolutionLemmas
