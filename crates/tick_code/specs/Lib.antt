@@ -1,3 +1,4 @@
 pub mod BuiltKinds
 pub mod Operands
+pub mod SmallCodes
 pub mod WellKinded

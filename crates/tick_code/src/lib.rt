@@ -16,7 +16,7 @@ pub use code::Code;
 pub use end_place::EndPlace;
 pub use laws::solutions_lie_in_their_classes;
 pub use layout::Layout;
-pub use rows::{classes_of_choices, classes_of_operations, operands_of_a_kind};
+pub use rows::{classes_of_choices, classes_of_operations, operands_of_a_kind, safe_divisors};
 
 #[cfg(test)]
 mod tests;

@@ -1,7 +1,8 @@
 //! Classes of single formulas, by computation.
 
-ghost use Rattle.std.specs.Prelude.{◌≡◌, ℕ, pos, negsuc, [], ◌∷◌};
-ghost use Rattle.tick_code.specs.WellKinded.{Class, Of, Constant, Fits, HasClass, IsEither};
+ghost use Rattle.std.specs.Prelude.{◌≡◌, ℕ, pos, negsuc, List, [], ◌∷◌};
+ghost use Rattle.tick_code.specs.WellKinded.{Class, Of, Constant, Fits, HasClass, IsEither, Suits, WellKinded};
+ghost use Rattle.tick_code.specs.SmallCodes.{divided_by};
 
 use java_values::{Kind, Op1, Op2};
 use wire_code::Formula;
@@ -45,4 +46,12 @@ pub fn classes_of_choices()
     ensures same { IsEither (Constant (pos 5)) (Constant (pos 5)) (Constant (pos 5)) }
     ensures differ { (d : Class) → IsEither (Constant (pos 5)) (Constant (pos 6)) d → ⊥ }
     ensures two_kinds { (d : Class) → IsEither (Of Kind.Byte) (Of Kind.Int) d → ⊥ }
+{}
+
+/// A divisor is given by a constant other than 0.
+pub fn safe_divisors()
+    ensures constant { Suits (divided_by (Formula.Const (pos 2))) (pos 7 ∷ []) }
+    ensures zero { (kinds : List Kind)
+        → WellKinded kinds (divided_by (Formula.Const (pos 0))) → ⊥ }
+    ensures place { (kinds : List Kind) → WellKinded kinds (divided_by (Formula.Get 0)) → ⊥ }
 {}

@@ -81,7 +81,8 @@ pub fn values_that_satisfy()
     ensures each { (f : ℕ → ℤ)
         → Satisfies f (number_at (pos 1 ∷ pos 1 ∷ [])) (is 0 (Formula.Const (pos 1)) ∷
         is 1 (Formula.Not 0) ∷ []) → ⊥ }
-    ensures several { (f : ℕ → ℤ) (n : ℤ) → Satisfies f (λ k. n) (is 0 (Formula.Choose 0 0 0) ∷ []) }
+    ensures several { (f : ℕ → ℤ) (n : ℤ)
+        → Satisfies f (λ k. n) (is 0 (Formula.Choose 0 0 0) ∷ []) }
     ensures none { (f w : ℕ → ℤ) → Satisfies f w (is 0 (Formula.Not 0) ∷ []) → ⊥ }
 {}
 
