@@ -12,7 +12,8 @@ use Rattle.kernel_rules.specs.definitions.Signals.{Env}
 use Rattle.kernel_rules.specs.definitions.Expressions.{holds}
 use Rattle.kernel_rules.specs.definitions.Registers.{registers, live, residual, last_value, LivesApart}
 use Rattle.surf_graph.proofs.Booleans.{or_right}
-use Rattle.surf_graph.specs.definitions.Formulas.{Satisfies, formula_value, to_nat, is_on, told, told_env}
+use Rattle.std.specs.Int.{int_max}
+use Rattle.surf_graph.specs.definitions.Formulas.{Satisfies, formula_value, is_on, told, told_env}
 use Rattle.surf_graph.specs.definitions.Copies.{Copy, Context, Sets, below, from, joined, behind, starting_if, other_context, joins, both_write, start_context, part_context, turn_own, live_own, branch_context, second_branch, weak_context, tested_context, local_context, own_registers, fold_emits}
 use Rattle.surf_graph.specs.definitions.StartingCopies.{start}
 use Rattle.depth_graph.specs.definitions.ResumingCopies.{writes1, writes_behind, resume, held_context, last_formula, waiting_copy}
@@ -112,7 +113,7 @@ waits_says f w c met e h on free alive =
       held = first_off w (n + 8) c.hold c.keep h.1.1.1.1.1.1.1.1.0 free;
       set = and_wire w (n + 9) (n + 4) c.keep h.1.1.1.1.1.1.1.1.1.0 ∙ ap (λ b. b && is_on w c.keep) stay;
     } where
-      stop : (b : Bool) → w (c.next + 5) ≡ pos 1 → w (c.next + 6) ≡ cond (not b) (pos 2) (pos 0) → w (c.next + 7) ≡ pos (max (to_nat (w (c.next + 5))) (to_nat (w (c.next + 6)))) → w (c.next + 7) ≡ pos (suc (cond b 0 1))
+      stop : (b : Bool) → w (c.next + 5) ≡ pos 1 → w (c.next + 6) ≡ cond (not b) (pos 2) (pos 0) → w (c.next + 7) ≡ int_max (w (c.next + 5)) (w (c.next + 6)) → w (c.next + 7) ≡ pos (suc (cond b 0 1))
       stop true a b k = status_is w (c.next + 7) (c.next + 5) (c.next + 6) 1 0 1 k a b refl
       stop false a b k = status_is w (c.next + 7) (c.next + 5) (c.next + 6) 1 2 2 k a b refl
 

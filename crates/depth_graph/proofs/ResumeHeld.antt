@@ -9,7 +9,7 @@ use Rattle.kernel_terms.specs.Expressions.{Literal}
 use Rattle.kernel_terms.specs.Statements.{Stmt, Nothing, Pause, Emit, Assign, If, Present, Seq, Loop, Par, Trap, Exit, Abort, Suspend, Local, Send, Receive, SendWaits, Sent, ReceiveWaits, Received}
 use Rattle.kernel_terms.specs.MayEnd.{ends1}
 use Rattle.kernel_rules.specs.definitions.Registers.{registers, last_value}
-use Rattle.surf_graph.specs.definitions.Formulas.{Satisfies, formula_value, to_nat, is_on, of_trap, told, told_env}
+use Rattle.surf_graph.specs.definitions.Formulas.{Satisfies, formula_value, is_on, of_trap, told, told_env}
 use Rattle.surf_graph.specs.definitions.Copies.{Context, below, from, joined, behind, starting_if, other_context, joins, both_write, start_context, part_context, turn_own, live_own, branch_context, second_branch, weak_context, tested_context, local_context, fold_emits}
 use Rattle.surf_graph.specs.definitions.StartingCopies.{start}
 use Rattle.depth_graph.specs.definitions.ResumingCopies.{writes1, writes_behind, resume, held_context, last_formula}
@@ -135,7 +135,7 @@ resume_held tables f w (Trap p) c z h off on =
     let u = resume_held tables f w p (part_context c.go 1 c) z h.1 off on in
     let q = u.quiet in
     record {
-      quiet = record { status = h.0 ∙ ap (λ i. pos (of_trap (to_nat i))) q.status; emits = q.emits; variables = q.variables };
+      quiet = record { status = h.0 ∙ ap of_trap q.status; emits = q.emits; variables = q.variables };
       stays = λ e. remain_Trap tables p c.register f (registers_set w a.sets) (u.stays e);
       unset = u.unset;
     }

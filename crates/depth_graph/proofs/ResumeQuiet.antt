@@ -8,7 +8,7 @@ use Rattle.kernel_terms.specs.Statements.{Stmt, Nothing, Pause, Emit, Assign, If
 use Rattle.kernel_terms.specs.MayEnd.{ends1}
 use Rattle.kernel_rules.specs.definitions.Registers.{registers, live}
 use Rattle.java_values.specs.Arithmetic.{of_bool}
-use Rattle.surf_graph.specs.definitions.Formulas.{Satisfies, to_nat, is_on, of_trap, told, told_env}
+use Rattle.surf_graph.specs.definitions.Formulas.{Satisfies, is_on, of_trap, told, told_env}
 use Rattle.surf_graph.specs.definitions.Copies.{Copy, Context, Sets, below, from, joined, none, behind, nothing_built, starting_if, other_context, joins, both_write, start_context, part_context, turn_own, live_own, branch_context, second_branch, weak_context, tested_context, local_context, fold_emits}
 use Rattle.surf_graph.specs.definitions.StartingCopies.{start}
 use Rattle.depth_graph.specs.definitions.ResumingCopies.{writes1, writes_behind, resume, held_context, last_formula, waiting_copy}
@@ -233,7 +233,7 @@ resume_silent tables f w (Par p q) c z h off free =
 resume_silent tables f w (Trap p) c z h off free =
     let u = resume_silent tables f w p (part_context c.go 1 c) z h.1 off free in
     let q = u.quiet in
-    record { quiet = record { status = h.0 ∙ ap (λ i. pos (of_trap (to_nat i))) q.status; emits = q.emits; variables = q.variables }; sets = u.sets }
+    record { quiet = record { status = h.0 ∙ ap of_trap q.status; emits = q.emits; variables = q.variables }; sets = u.sets }
 resume_silent tables f w (Exit d) c z h off free = nothing_quiet w c z
 resume_silent tables f w (Abort true armed t p) c z h off free =
     let a = resume tables p (weak_context c) in

@@ -426,7 +426,7 @@ resume_rests tables f w (Trap p) c o z s =
     let one = one_solved f w n 1 vs a v (omega arith) x.same in
     let g = one.same in
     let sa = quiet_of tables f v p d0 (zero_at n w v g o.some z) x.solves (idle_at n w v c d0 x1 g k o.hold refl refl s) in
-    record { values = v; same = g; solves = (one.first ∙ sym (ap (λ i. pos (of_trap (to_nat i))) sa.status), x.solves) }
+    record { values = v; same = g; solves = (one.first ∙ sym (ap of_trap sa.status), x.solves) }
 resume_rests tables f w (Exit d) c o z s = nothing_rests f w c
 resume_rests tables f w (Abort true armed t p) c o z s =
     let n = c.next in
@@ -457,14 +457,14 @@ resume_rests tables f w (Abort true armed t p) c o z s =
           (
             one.own 2 (omega arith) ∙ sym (ap₂ (λ i j. of_bool (i || is_true j)) hold_v (one.own 4 (omega arith)) ∙ ap of_bool (or_none hold)),
             (
-              one.own 3 (omega arith) ∙ sym (ap (λ i. cond (is_on v (n + 1)) (pos (of_weak_abort (to_nat i))) i) sa.status ∙ either (is_on v (n + 1))),
+              one.own 3 (omega arith) ∙ sym (ap (λ i. cond (is_on v (n + 1)) (of_weak_abort i) i) sa.status ∙ either (is_on v (n + 1))),
               (one.own 4 (omega arith) ∙ sym (ap (λ i. of_bool (to_nat i == 2)) (one.own 3 (omega arith))), x.solves),
             ),
           ),
         ),
       );
     } where
-      either : (b : Bool) → cond b (pos (of_weak_abort 0)) (pos 0) ≡ pos 0
+      either : (b : Bool) → cond b (of_weak_abort (pos 0)) (pos 0) ≡ pos 0
       either true = refl
       either false = refl
 resume_rests tables f w (Abort false armed t p) c o z s =

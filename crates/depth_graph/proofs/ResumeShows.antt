@@ -14,6 +14,7 @@ use Rattle.kernel_rules.specs.definitions.TickRule.{Tick, Ticks, Continues, Chos
 use Rattle.kernel_rules.specs.definitions.Registers.{registers}
 use Rattle.kernel_rules.proofs.StartingTicks.{ended_zero}
 use Rattle.java_values.specs.Arithmetic.{of_bool}
+use Rattle.std.specs.Int.{int_max}
 use Rattle.surf_graph.specs.definitions.Formulas.{Holds, Satisfies, formula_value, to_nat, is_on, of_trap, of_weak_abort, told, told_env}
 use Rattle.surf_graph.specs.definitions.Copies.{Copy, Context, below, from, joined, behind, starting_if, other_context, joins, both_write, start_context, part_context, turn_own, branch_context, second_branch, weak_context, weak_copy, tested_context, tested_copy, local_context, own_registers, fold_emits}
 use Rattle.surf_graph.specs.definitions.StartingCopies.{start}
@@ -21,7 +22,7 @@ use Rattle.depth_graph.specs.definitions.ResumingCopies.{writes1, writes_behind}
 use Rattle.surf_graph.specs.definitions.Tells.{Tells, Active, Silent, Quiet, Stands, registers_set}
 use Rattle.surf_graph.specs.definitions.Sources.{IsSource}
 use Rattle.surf_graph.proofs.SetValues.{truth_of, off_joined, off_below, off_from}
-use Rattle.surf_graph.proofs.Parts.{by_cases, first_stands, second_stands, first_dies, second_dies, Seq_first, Seq_second, turn_ended, turn_waits}
+use Rattle.surf_graph.proofs.Parts.{greater_of, by_cases, first_stands, second_stands, first_dies, second_dies, Seq_first, Seq_second, turn_ended, turn_waits}
 use Rattle.surf_graph.proofs.Beside.{Keeps, Branch, branch_ticks, par_active, next_one}
 use Rattle.surf_graph.proofs.Wraps.{suspend_stops, trap_active, trap_status, weak_status, weak_stops, weak_goes, whole_tells, strong_stops, abort_stands, suspend_stands}
 use Rattle.surf_graph.proofs.Locals.{local_equations, told_local, fold_says, folded_from}
@@ -103,7 +104,7 @@ pair_shows tables f w e p q P c o out z on free true eq alive apart stands first
     let free_v = at n c.hold w v false g out.hold free in
     let ta = part_tells tables f w0 v p c.register c.keep (n + 2) a o (n + 2) x y.same i (omega (arith, grows, keep)) in
     let sb = resume_silent tables f v q d zv t.solves_second (idle_if (is_on v d.go) x2 dead) free_v in
-    let e0 : v n ≡ pos (max (to_nat (v a.status)) (to_nat (v b.status))) = one.first ∙ max_of v a.status b.status (suc o.code) 0 (suc o.code) ta.status (sb.quiet).status (omega arith) in
+    let e0 : v n ≡ int_max (v a.status) (v b.status) = one.first ∙ max_of v a.status b.status (suc o.code) 0 (suc o.code) ta.status (sb.quiet).status (omega arith) in
     let last = told v c.wires.last in
     let env = told_env v c.wires in
     let vars = told v c.wires.variables in
@@ -161,7 +162,7 @@ pair_shows tables f w e p q P c o out z on free false eq alive apart stands firs
     let free_v = at n c.hold w v false g out.hold free in
     let tb = y.tells in
     let sa = resume_silent tables f v p d0 zv t.solves_first (idle_if (is_on v d0.go) x1 eq) free_v in
-    let e0 : v n ≡ pos (max (to_nat (v a.status)) (to_nat (v b.status))) = one.first ∙ max_of v a.status b.status 0 (suc o.code) (suc o.code) (sa.quiet).status tb.status (omega arith) in
+    let e0 : v n ≡ int_max (v a.status) (v b.status) = one.first ∙ max_of v a.status b.status 0 (suc o.code) (suc o.code) (sa.quiet).status tb.status (omega arith) in
     let last = told v c.wires.last in
     let env = told_env v c.wires in
     let vars = told v c.wires.variables in
@@ -208,7 +209,7 @@ waiting_solution f w c o on free alive b e =
                   (
                     own_at n 6 vs w ∙ sym (ap (λ x. cond x (pos 2) (pos 0)) four),
                     (
-                      own_at n 7 vs w ∙ greatest b ∙ sym (ap₂ (λ x y. pos (max (to_nat x) (to_nat y))) (own_at n 5 vs w) (own_at n 6 vs w)),
+                      own_at n 7 vs w ∙ greatest b ∙ sym (ap₂ int_max (own_at n 5 vs w) (own_at n 6 vs w)),
                       (
                         own_at n 8 vs w ∙ sym (ap (λ x. of_bool (x && is_on v c.keep)) (ap is_true (g.at c.hold o.hold) ∙ free)),
                         (own_at n 9 vs w ∙ sym (ap₂ (λ x y. of_bool (x && y)) four (ap is_true (g.at c.keep o.keep))), tt),
@@ -222,7 +223,7 @@ waiting_solution f w c o on free alive b e =
         ),
       );
     } where
-      greatest : (x : Bool) → pos (suc (cond x 0 1)) ≡ pos (max (to_nat (pos 1)) (to_nat (cond (not x) (pos 2) (pos 0))))
+      greatest : (x : Bool) → pos (suc (cond x 0 1)) ≡ int_max (pos 1) (cond (not x) (pos 2) (pos 0))
       greatest true = refl
       greatest false = refl
 
@@ -295,8 +296,8 @@ weak_resumes : (tables : Tables) (f w : ℕ → ℤ) (armed : Bool) (test : Test
     → Shows tables f w (Abort true armed test p) c.register c.keep c.next (weak_copy test c (resume tables p (weak_context c))) o
 weak_resumes tables f w armed test p R c o out z on free b eq body h = by_bool b eq h where
   shape : (i : Tick) (code : ℕ) → Ticks tables (told w c.wires.last) R (told_env w c.wires) (told w c.wires.variables) i
-      → ((v : ℕ → ℤ) → Agreeing c.next w v → v (c.next + 3) ≡ pos (suc code) → is_on v (c.next + 1) ≡ holds (told_env w c.wires) test → Tells tables v p c.register c.next (resume tables p (weak_context c)) i → v (c.next + 3) ≡ cond (is_on v (c.next + 1)) (pos (of_weak_abort (to_nat (v (resume tables p (weak_context c)).status)))) (v (resume tables p (weak_context c)).status))
-      → ((v : ℕ → ℤ) → is_on v (c.next + 1) ≡ holds (told_env w c.wires) test → v (c.next + 3) ≡ cond (is_on v (c.next + 1)) (pos (of_weak_abort (to_nat (v (resume tables p (weak_context c)).status)))) (v (resume tables p (weak_context c)).status) → Keeps v c.next c.keep c.hold (c.next + 3) → is_on v c.hold ≡ false → Tells tables v p c.register c.next (resume tables p (weak_context c)) i
+      → ((v : ℕ → ℤ) → Agreeing c.next w v → v (c.next + 3) ≡ pos (suc code) → is_on v (c.next + 1) ≡ holds (told_env w c.wires) test → Tells tables v p c.register c.next (resume tables p (weak_context c)) i → v (c.next + 3) ≡ cond (is_on v (c.next + 1)) (of_weak_abort (v (resume tables p (weak_context c)).status)) (v (resume tables p (weak_context c)).status))
+      → ((v : ℕ → ℤ) → is_on v (c.next + 1) ≡ holds (told_env w c.wires) test → v (c.next + 3) ≡ cond (is_on v (c.next + 1)) (of_weak_abort (v (resume tables p (weak_context c)).status)) (v (resume tables p (weak_context c)).status) → Keeps v c.next c.keep c.hold (c.next + 3) → is_on v c.hold ≡ false → Tells tables v p c.register c.next (resume tables p (weak_context c)) i
       → Tells tables v (Abort true armed test p) c.register c.keep (weak_copy test c (resume tables p (weak_context c))) o)
       → Shows tables f w (Abort true armed test p) c.register c.keep c.next (weak_copy test c (resume tables p (weak_context c))) o
   shape i code hi status tells =
@@ -329,13 +330,13 @@ weak_resumes tables f w armed test p R c o out z on free b eq body h = by_bool b
       let i : Tick = k.0 in
       let a = resume tables p (weak_context c) in
       shape i (code_of_weak_abort i.code) k.1
-      (λ v g s ht t. s ∙ sym (ap (λ s. cond s (pos (of_weak_abort (to_nat (v a.status)))) (v a.status)) (ht ∙ eq) ∙ ap (λ s. pos (of_weak_abort (to_nat s))) t.status ∙ ap pos (weak_status i.code)))
+      (λ v g s ht t. s ∙ sym (ap (λ s. cond s (of_weak_abort (v a.status)) (v a.status)) (ht ∙ eq) ∙ ap of_weak_abort t.status ∙ weak_status i.code))
       (λ v ht e3 ks fv t. subst (λ s. Tells tables v (Abort true armed test p) c.register c.keep (weak_copy test c a) s) (sym k.2) (weak_stops tables v (told_env w c.wires) armed test p c a i ht e3 ks fv eq t))
   by_bool false eq k =
       let i : Tick = k.0 in
       let a = resume tables p (weak_context c) in
       shape i i.code k.1
-      (λ v g s ht t. s ∙ sym (ap (λ s. cond s (pos (of_weak_abort (to_nat (v a.status)))) (v a.status)) (ht ∙ eq) ∙ t.status))
+      (λ v g s ht t. s ∙ sym (ap (λ s. cond s (of_weak_abort (v a.status)) (v a.status)) (ht ∙ eq) ∙ t.status))
       (λ v ht e3 ks fv t. subst (λ s. Tells tables v (Abort true armed test p) c.register c.keep (weak_copy test c a) s) (sym k.2) (weak_goes tables v (told_env w c.wires) armed test p c a i ht e3 ks fv eq t))
 
 strong_resumes : (tables : Tables) (f w : ℕ → ℤ) (armed : Bool) (test : Test) (p : Stmt) (c : Context) (o : Tick) → Outside c → w 0 ≡ pos 0 → is_on w c.go ≡ true → is_on w c.hold ≡ false → live tables p c.register f ≡ true → LivesApart tables p c.register f
@@ -681,14 +682,14 @@ seq_ends tables f w p q c o body_p body_q out src l z on free apart e1 dead i k 
     let ta = tells_still tables u1 v p r c.keep (n + 5) a i three.after_first ia keep_a s1.tells in
     let tb = tells_still tables u2 v q m c.keep a.next b j three.after_second ib keep_b s2.tells in
     let zero_code = ended_zero i.code e2 in
-    let ex : v (n + 2) ≡ pos (max (to_nat (v a.status)) (to_nat (v b.status))) = one.own 2 lt_2_5 ∙ max_of v a.status b.status (suc i.code) (suc j.code) (suc j.code) ta.status tb.status (max_ended i.code j.code zero_code) in
+    let ex : v (n + 2) ≡ int_max (v a.status) (v b.status) = one.own 2 lt_2_5 ∙ max_of v a.status b.status (suc i.code) (suc j.code) (suc j.code) ta.status tb.status (max_ended i.code j.code zero_code) in
     let eg : v (n + 4) ≡ of_bool (to_nat (v a.status) == 1) = one.own 4 lt_4_5 ∙ sym (ap (λ s. of_bool (to_nat s == 1)) ta.status ∙ ap (λ s. of_bool (suc s == 1)) zero_code) in
     let inner = turn_ended tables v p q (Seq p q) q r m r c.keep (n + 2) a.live S T (turn_own (n + 4) a) a b ex i j ta tb e2
     (λ s off st. Seq_second tables p q s r Q (first_dies tables v p r a.sets b.sets off) (second_stands tables v q s m a.sets b.sets st))
     (λ s1 s2. off_joined v S T (off_below v m a.sets s1) (off_from v m b.sets s2)) in
     let sy = resume_silent tables f v q dy zv hy (idle_if (is_on v c.go) x2 dead) free_v in
     let e2s : v (n + 2) ≡ pos (suc j.code) = one.own 2 lt_2_5 in
-    let e0 : v n ≡ pos (max (to_nat (v (n + 2))) (to_nat (v y.status))) = one.first ∙ max_of v (n + 2) y.status (suc j.code) 0 (suc j.code) e2s (sy.quiet).status (max_first j.code) in
+    let e0 : v n ≡ int_max (v (n + 2)) (v y.status) = one.first ∙ max_of v (n + 2) y.status (suc j.code) 0 (suc j.code) e2s (sy.quiet).status (max_first j.code) in
     let ux : Active tables last env vars v (Seq p q) (Seq R q) r c.keep x = record { tick = o; ticks = k; tells = subst (λ s. Tells tables v (Seq p q) r c.keep x s) (sym kk.2) inner } in
     let whole = active_first tables last env vars f v (writes_behind p q) (writes1 q) y.live (Seq p q) (Seq R q) (Seq p q) (Seq R q) r r c.keep n (n + 1) x.sets (from m y.sets) (live_own (n + 1) x y) x y e0 jn.joins (live_wire tables f v q dy zv hy ∙ dead) (λ k e. ap v (behind_passes tables p q c k e) ∙ g.at (c.wires.variables k) ((out.wires).variables k)) ux
     (subst (λ s. Quiet v s y) (told_agrees n w v c.wires.variables g (out.wires).variables) sy.quiet) (λ o k. k) (λ s st. first_alone tables v (Seq p q) s r x.sets (from m y.sets) (off_from v m y.sets sy.sets) st) (λ st. off_joined v x.sets (from m y.sets) st (off_from v m y.sets sy.sets)) in
@@ -772,14 +773,14 @@ seq_waits tables f w p q c o body_p body_q out src l z on free apart e1 dead i k
     let Q = registers_set v (joined S T) in
     let ta = tells_still tables u1 v p r c.keep (n + 5) a i three.after_first ia keep_a s1.tells in
     let sb = silent_if f v (told v a.variables) (ends1 p) (start tables q d) d zv hb (λ j. start_silent tables f v q d zv j (ap is_true (one.own 4 lt_4_5)) (ap is_true zv)) in
-    let ex : v (n + 2) ≡ pos (max (to_nat (v a.status)) (to_nat (v b.status))) = one.own 2 lt_2_5 ∙ max_of v a.status b.status (suc i.code) 0 (suc i.code) ta.status (sb.quiet).status (max_first i.code) in
+    let ex : v (n + 2) ≡ int_max (v a.status) (v b.status) = one.own 2 lt_2_5 ∙ max_of v a.status b.status (suc i.code) 0 (suc i.code) ta.status (sb.quiet).status (max_first i.code) in
     let eg : v (n + 4) ≡ of_bool (to_nat (v a.status) == 1) = one.own 4 lt_4_5 ∙ sym (ap (λ s. of_bool (to_nat s == 1)) ta.status ∙ ap of_bool (has_ended_status i.code ∙ e2)) in
     let inner = turn_waits tables v p q (Seq p q) q r m r c.keep (n + 2) a.live S T (turn_own (n + 4) a) a b ex i ta sb
     (λ s off st. Seq_first tables p q s r Q (first_stands tables v p s r a.sets b.sets st) (second_dies tables v q m a.sets b.sets off))
     (λ s1 s2. off_joined v S T (off_below v m a.sets s1) (off_from v m b.sets s2)) in
     let sy = resume_silent tables f v q dy zv hy (idle_if (is_on v c.go) x2 dead) free_v in
     let e2s : v (n + 2) ≡ pos (suc i.code) = one.own 2 lt_2_5 in
-    let e0 : v n ≡ pos (max (to_nat (v (n + 2))) (to_nat (v y.status))) = one.first ∙ max_of v (n + 2) y.status (suc i.code) 0 (suc i.code) e2s (sy.quiet).status (max_first i.code) in
+    let e0 : v n ≡ int_max (v (n + 2)) (v y.status) = one.first ∙ max_of v (n + 2) y.status (suc i.code) 0 (suc i.code) e2s (sy.quiet).status (max_first i.code) in
     let ux : Active tables last env vars v (Seq p q) (Seq R q) r c.keep x = record { tick = o; ticks = k; tells = subst (λ s. Tells tables v (Seq p q) r c.keep x s) (sym kk) inner } in
     let whole = active_first tables last env vars f v (writes_behind p q) (writes1 q) y.live (Seq p q) (Seq R q) (Seq p q) (Seq R q) r r c.keep n (n + 1) x.sets (from m y.sets) (live_own (n + 1) x y) x y e0 jn.joins (live_wire tables f v q dy zv hy ∙ dead) (λ k e. ap v (behind_passes tables p q c k e) ∙ g.at (c.wires.variables k) ((out.wires).variables k)) ux
     (subst (λ s. Quiet v s y) (told_agrees n w v c.wires.variables g (out.wires).variables) sy.quiet) (λ o k. k) (λ s st. first_alone tables v (Seq p q) s r x.sets (from m y.sets) (off_from v m y.sets sy.sets) st) (λ st. off_joined v x.sets (from m y.sets) st (off_from v m y.sets sy.sets)) in
@@ -865,10 +866,10 @@ seq_second tables f w p q c o body_p body_q out src l z on free apart e1 lives k
     let sa = resume_silent tables f v p d0 zv ha (idle_if (is_on v c.go) x1 e1) free_v in
     let sb = silent_if f v (told v a.variables) (ends1 p) (start tables q d) d zv hb (λ j. start_silent tables f v q d zv j (ap is_true (one.own 4 lt_4_5)) (ap is_true zv)) in
     let ty = s3.tells in
-    let ex : v (n + 2) ≡ pos (max (to_nat (v a.status)) (to_nat (v b.status))) = one.own 2 lt_2_5 ∙ max_of v a.status b.status 0 0 0 (sa.quiet).status (sb.quiet).status refl in
+    let ex : v (n + 2) ≡ int_max (v a.status) (v b.status) = one.own 2 lt_2_5 ∙ max_of v a.status b.status 0 0 0 (sa.quiet).status (sb.quiet).status refl in
     let eg : v (n + 4) ≡ of_bool (to_nat (v a.status) == 1) = one.own 4 lt_4_5 ∙ sym (ap (λ s. of_bool (to_nat s == 1)) (sa.quiet).status) in
     let sx = silent_pair v (told v c.wires.variables) (n + 2) a.live m (turn_own (n + 4) a) a b ex sa sb in
-    let e0 : v n ≡ pos (max (to_nat (v (n + 2))) (to_nat (v y.status))) = one.first ∙ max_of v (n + 2) y.status 0 (suc o.code) (suc o.code) (one.own 2 lt_2_5) ty.status (max_second o.code) in
+    let e0 : v n ≡ int_max (v (n + 2)) (v y.status) = one.first ∙ max_of v (n + 2) y.status 0 (suc o.code) (suc o.code) (one.own 2 lt_2_5) ty.status (max_second o.code) in
     let J = registers_set v (joined x.sets (from m y.sets)) in
     let uy : Active tables (told v c.wires.last) (told_env v c.wires) (told v c.wires.variables) v q S2 m c.keep y = record { tick = o; ticks = moved tables n w v S2 c.wires o g out.wires k; tells = ty } in
     let whole = active_second tables (told v c.wires.last) (told_env v c.wires) (told v c.wires.variables) f v (writes_behind p q) (writes1 q) y.live q S2 (Seq p q) S2 m r c.keep n (n + 1) x.sets (from m y.sets) (live_own (n + 1) x y) x y e0 jn.joins (live_wire tables f v q dy zv hy ∙ lives) (λ i e. ap v (resume_passes tables q dy i e)) sx.quiet uy (λ o k. k)
@@ -949,7 +950,7 @@ loop_resumes tables f w p c o body_p out src l z on free alive apart h =
     let ta = tells_still tables u1 v p r c.keep (n + 3) a i s2.same ia keep_a s1.tells in
     let tb = s2.tells in
     let zero_code = ended_zero i.code e2 in
-    let ex : v n ≡ pos (max (to_nat (v a.status)) (to_nat (v b.status))) = one.first ∙ max_of v a.status b.status (suc i.code) (suc j.code) (suc j.code) ta.status tb.status (max_ended i.code j.code zero_code) in
+    let ex : v n ≡ int_max (v a.status) (v b.status) = one.first ∙ max_of v a.status b.status (suc i.code) (suc j.code) (suc j.code) ta.status tb.status (max_ended i.code j.code zero_code) in
     let eg : v (n + 2) ≡ of_bool (to_nat (v a.status) == 1) = one.own 2 lt_2_3 ∙ sym (ap (λ s. of_bool (to_nat s == 1)) ta.status ∙ ap (λ s. of_bool (suc s == 1)) zero_code) in
     let inner = turn_ended tables v p (Loop p) (Loop p) (Loop p) r r r c.keep n a.live a.sets b.sets (turn_own (n + 2) a) a b ex i j ta tb e2
     (λ s off st. second_alone tables v (Loop p) s r a.sets b.sets off st) (λ s1 s2. off_joined v a.sets b.sets s1 s2) in
@@ -987,7 +988,7 @@ loop_resumes tables f w p c o body_p out src l z on free alive apart h =
     let hb = t.solves_second in
     let ta = tells_still tables u1 v p r c.keep (n + 3) a i s2.same ia keep_a s1.tells in
     let sb = silent_if f v (told v a.variables) (ends1 p) (start tables p d) d zv hb (λ j. start_silent tables f v p d zv j (ap is_true (one.own 2 lt_2_3)) (ap is_true zv)) in
-    let ex : v n ≡ pos (max (to_nat (v a.status)) (to_nat (v b.status))) = one.first ∙ max_of v a.status b.status (suc i.code) 0 (suc i.code) ta.status (sb.quiet).status (max_first i.code) in
+    let ex : v n ≡ int_max (v a.status) (v b.status) = one.first ∙ max_of v a.status b.status (suc i.code) 0 (suc i.code) ta.status (sb.quiet).status (max_first i.code) in
     let eg : v (n + 2) ≡ of_bool (to_nat (v a.status) == 1) = one.own 2 lt_2_3 ∙ sym (ap (λ s. of_bool (to_nat s == 1)) ta.status ∙ ap of_bool (has_ended_status i.code ∙ e2)) in
     let inner = turn_waits tables v p (Loop p) (Loop p) (Loop p) r r r c.keep n a.live a.sets b.sets (turn_own (n + 2) a) a b ex i ta sb
     (λ s off st. first_alone tables v (Loop p) (Seq s (Loop p)) r a.sets b.sets off (loop_stands tables p s r (registers_set v a.sets) st)) (λ s1 s2. off_joined v a.sets b.sets s1 s2) in
@@ -1055,13 +1056,13 @@ par_resumes tables f w p q c o body_p body_q out src l z on free alive apart h =
     (λ e k s. or_right (ends0 p) (ends1 p) ((resuming_allows tables last p r f env vars i e apart.1 k).ends s)) sa (λ e. over_is p x1 e over.0) in
     let bb = branch_at tables last env vars v q S m n b j x2 h.3 by.tells
     (λ e k s. or_right (ends0 q) (ends1 q) ((resuming_allows tables last q m f env vars j e apart.2 k).ends s)) sb (λ e. over_is q x2 e over.1) in
-    let stat : v (n + 3) ≡ pos (max (to_nat (v a.status)) (to_nat (v b.status))) =
+    let stat : v (n + 3) ≡ int_max (v a.status) (v b.status) =
     one.own 3 (omega arith) ∙ sym (by_cases x1
     (λ e1. by_cases x2
-    (λ e2. ap₂ (λ s t. pos (max (to_nat s) (to_nat t))) (ta e1).status (by.tells e2).status ∙ ap pos (omega arith))
-    (λ e2. let zb = (sb e2).quiet in let zj = dead_code tables last S env vars j x2 e2 h.3 in ap₂ (λ s t. pos (max (to_nat s) (to_nat t))) (ta e1).status zb.status ∙ ap pos (omega (arith, zj))))
+    (λ e2. ap₂ int_max (ta e1).status (by.tells e2).status ∙ greater_of (suc i.code) (suc j.code) ∙ ap pos (omega arith))
+    (λ e2. let zb = (sb e2).quiet in let zj = dead_code tables last S env vars j x2 e2 h.3 in ap₂ int_max (ta e1).status zb.status ∙ greater_of (suc i.code) 0 ∙ ap pos (omega (arith, zj))))
     (λ e1. let za = (sa e1).quiet in let zi = dead_code tables last R env vars i x1 e1 h.2 in
-    ap₂ (λ s t. pos (max (to_nat s) (to_nat t))) za.status (by.tells (other_one x1 x2 alive e1)).status ∙ ap pos (omega (arith, zi)))) in
+    ap₂ int_max za.status (by.tells (other_one x1 x2 alive e1)).status ∙ greater_of 0 (suc j.code) ∙ ap pos (omega (arith, zi)))) in
     let ks = keep_equations v n (n + 1) (n + 2) (n + 3) c.keep c.hold code (is_on w c.keep) (at n c.keep w v (is_on w c.keep) g out.keep refl) free_v (one.own 3 (omega arith)) one.first (one.own 1 (omega arith)) (one.own 2 (omega arith)) in
     let whole = par_active tables last env vars v p q (cond x1 R Nothing) (cond x2 S Nothing) (n + 4) (live_own (n + 4) a b) c a b stat (keeps_says v n (n + 1) (n + 2) (n + 3) c.keep c.hold ks.first ks.second ks.third) free_v
     ba.branch bb.branch
@@ -1208,7 +1209,7 @@ resume_shows tables f w (Trap p) c o out src l z on free alive apart h =
     let x = resume_shows tables f w0 p d0 i (outside_part c.go 1 c out (omega (arith, go))) src l (zero_at n w w0 g0 out.some z) (at n c.go w w0 true g0 out.go on) (at n c.hold w w0 false g0 out.hold free) alive apart (moved tables n w w0 R c.wires i g0 out.wires h.1) in
     let v = x.values in
     let one = one_solved f w n 1 vs a v (omega arith) x.same in
-    let e0 : v n ≡ pos (of_trap (to_nat (v a.status))) = one.first ∙ sym (ap (λ s. pos (of_trap (to_nat s))) (x.tells).status ∙ ap pos (trap_status i.code)) in
+    let e0 : v n ≡ of_trap (v a.status) = one.first ∙ sym (ap of_trap (x.tells).status ∙ trap_status i.code) in
     let ua : Active tables (told w c.wires.last) (told_env w c.wires) (told w c.wires.variables) v p R c.register c.keep a = record { tick = i; ticks = h.1; tells = x.tells } in
     let whole = trap_active tables (told w c.wires.last) (told_env w c.wires) (told w c.wires.variables) v p R c a e0 ua in
     record { values = v; same = one.same; solves = (e0, x.solves); tells = subst (λ s. Tells tables v (Trap p) c.register c.keep (resume tables (Trap p) c) s) (sym h.2) whole.tells }

@@ -13,7 +13,7 @@ pause_equations = is 8 (Get 0) ∷ is 9 (And 1 8) ∷ is 10 (Status 9 0) ∷ is 
 abbrev pub pause_then_emission_equations : List Equation
 pause_then_emission_equations =
     is 8 (Greater 10 0) ∷ is 9 (Or 13 0)
-    ∷ is 10 (Greater 15 17) ∷ is 12 (IsStatus 15 1)
+    ∷ is 10 (Greater 15 17) ∷ is 12 (IsStatus 15 0)
     ∷ is 13 (Get 0) ∷ is 14 (And 1 13) ∷ is 15 (Status 14 0) ∷ is 16 (And 2 3)
     ∷ is 17 (Status 12 0) ∷ is 18 (Const (pos 0)) ∷ []
 
@@ -23,6 +23,6 @@ pauses = Loop Pause
 -- wire 10 tells that the pause has ended, where it starts anew
 abbrev pub pauses_equations : List Equation
 pauses_equations =
-    is 8 (Greater 13 15) ∷ is 10 (IsStatus 13 1)
+    is 8 (Greater 13 15) ∷ is 10 (IsStatus 13 0)
     ∷ is 11 (Get 0) ∷ is 12 (And 1 11) ∷ is 13 (Status 12 0) ∷ is 14 (And 2 3)
     ∷ is 15 (Status 10 1) ∷ is 16 (And 10 3) ∷ []

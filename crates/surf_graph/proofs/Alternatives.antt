@@ -6,7 +6,8 @@ use Rattle.kernel_terms.specs.declared.tables.Tables.{Tables}
 use Rattle.kernel_terms.specs.Statements.{Stmt}
 use Rattle.kernel_rules.specs.definitions.Signals.{Env}
 use Rattle.kernel_rules.specs.definitions.TickRule.{Tick, Ticks}
-use Rattle.surf_graph.specs.definitions.Formulas.{Equation, Satisfies, to_nat, is_on, told}
+use Rattle.std.specs.Int.{int_max}
+use Rattle.surf_graph.specs.definitions.Formulas.{Equation, Satisfies, is_on, told}
 use Rattle.surf_graph.specs.definitions.Copies.{Copy, Sets, below, from, joined, has, both_write, joins, join_wires, wires_by, alternatives}
 use Rattle.surf_graph.specs.definitions.Tells.{Off, registers_set, Stands, Active, Quiet, Silent}
 use Rattle.surf_graph.proofs.SetValues.{off_joined, off_below, off_from, emitted_first, emitted_second}
@@ -123,7 +124,7 @@ told_none f w x p q other a b h u v =
 
 -- neither ticks
 
-pub quiet_both : (f w x : ℕ → ℤ) (p q : List ℕ) (other n l : ℕ) (S T : ℕ → List Sets) (own : List Equation) (a b : Copy) → w n ≡ pos (max (to_nat (w a.status)) (to_nat (w b.status))) → Joins f w p q other a b → Quiet w x a → Quiet w x b → Quiet w x (alternatives p q other n l S T own a b)
+pub quiet_both : (f w x : ℕ → ℤ) (p q : List ℕ) (other n l : ℕ) (S T : ℕ → List Sets) (own : List Equation) (a b : Copy) → w n ≡ int_max (w a.status) (w b.status) → Joins f w p q other a b → Quiet w x a → Quiet w x b → Quiet w x (alternatives p q other n l S T own a b)
 quiet_both f w x p q other n l S T own a b h js u v =
     record {
       status = status_is w n a.status b.status 0 0 0 h u.status v.status refl;
@@ -131,7 +132,7 @@ quiet_both f w x p q other n l S T own a b h js u v =
       variables = told_none f w x p q other a b js u.variables v.variables;
     }
 
-pub silent_both : (f w x : ℕ → ℤ) (p q : List ℕ) (other n l m : ℕ) (own : List Equation) (a b : Copy) → w n ≡ pos (max (to_nat (w a.status)) (to_nat (w b.status))) → Joins f w p q other a b → Silent w x a → Silent w x b → Silent w x (alternatives p q other n l (below m a.sets) (from m b.sets) own a b)
+pub silent_both : (f w x : ℕ → ℤ) (p q : List ℕ) (other n l m : ℕ) (own : List Equation) (a b : Copy) → w n ≡ int_max (w a.status) (w b.status) → Joins f w p q other a b → Silent w x a → Silent w x b → Silent w x (alternatives p q other n l (below m a.sets) (from m b.sets) own a b)
 silent_both f w x p q other n l m own a b h js u v =
     record {
       quiet = quiet_both f w x p q other n l (below m a.sets) (from m b.sets) own a b h js u.quiet v.quiet;
@@ -142,7 +143,7 @@ silent_both f w x p q other n l m own a b h js u v =
 
 abbrev pub active_first :
     (tables : Tables) (last : ℕ → ℤ) (env : Env) (x f w : ℕ → ℤ) (p1 q1 : List ℕ) (other : ℕ) (p t P T : Stmt) (n N keep k l : ℕ) (S U : ℕ → List Sets) (own : List Equation) (a b : Copy)
-    → w k ≡ pos (max (to_nat (w a.status)) (to_nat (w b.status))) → Joins f w p1 q1 other a b → is_on w other ≡ false → ((y : ℕ) → has p1 y ≡ false → told w a.variables y ≡ x y)
+    → w k ≡ int_max (w a.status) (w b.status) → Joins f w p1 q1 other a b → is_on w other ≡ false → ((y : ℕ) → has p1 y ≡ false → told w a.variables y ≡ x y)
     → Active tables last env x w p t n keep a → Quiet w x b
     → ((o : Tick) → Ticks tables last t env x o → Ticks tables last T env x o)
     → ((s : Stmt) → Stands tables p n (registers_set w a.sets) s → Stands tables P N (registers_set w (joined S U)) s)
@@ -166,7 +167,7 @@ active_first tables last env x f w p1 q1 other p t P T n N keep k l S U own a b 
 
 abbrev pub active_second :
     (tables : Tables) (last : ℕ → ℤ) (env : Env) (x f w : ℕ → ℤ) (p1 q1 : List ℕ) (other : ℕ) (p t P T : Stmt) (n N keep k l : ℕ) (S U : ℕ → List Sets) (own : List Equation) (a b : Copy)
-    → w k ≡ pos (max (to_nat (w a.status)) (to_nat (w b.status))) → Joins f w p1 q1 other a b → is_on w other ≡ true → ((y : ℕ) → has q1 y ≡ false → told w b.variables y ≡ x y)
+    → w k ≡ int_max (w a.status) (w b.status) → Joins f w p1 q1 other a b → is_on w other ≡ true → ((y : ℕ) → has q1 y ≡ false → told w b.variables y ≡ x y)
     → Quiet w x a → Active tables last env x w p t n keep b
     → ((o : Tick) → Ticks tables last t env x o → Ticks tables last T env x o)
     → ((s : Stmt) → Stands tables p n (registers_set w b.sets) s → Stands tables P N (registers_set w (joined S U)) s)

@@ -8,6 +8,7 @@ use Rattle.kernel_rules.specs.definitions.Signals.{Env}
 use Rattle.kernel_rules.specs.definitions.TickRule.{Tick, Ticks, ends_with, tick_of_both, variables_of_both}
 use Rattle.kernel_rules.specs.definitions.Registers.{registers, live, residual, LivesApart, OverOrLive}
 use Rattle.surf_graph.proofs.Booleans.{left_of, both_true, or_left, or_right}
+use Rattle.std.specs.Int.{int_max}
 use Rattle.surf_graph.specs.definitions.Formulas.{Equation, to_nat, is_on, told}
 use Rattle.surf_graph.specs.definitions.Copies.{Copy, Context, below, from, joined, beside}
 use Rattle.surf_graph.specs.definitions.Tells.{emitted, Off, registers_set, PureZero, Stands, Active, Quiet, Silent, Held}
@@ -77,7 +78,7 @@ branch_over tables last env x w p n keep copy s over =
       over = λ e. over;
     }
 
-pub status_of_both : (w : ℕ → ℤ) (s a b i j : ℕ) → w s ≡ pos (max (to_nat (w a)) (to_nat (w b))) → (w a ≡ pos (suc i)) ⊎ ((w a ≡ pos 0) × (i ≡ 0)) → (w b ≡ pos (suc j)) ⊎ ((w b ≡ pos 0) × (j ≡ 0)) → (w a ≡ pos 0 → w b ≡ pos 0 → ⊥) → w s ≡ pos (suc (max i j))
+pub status_of_both : (w : ℕ → ℤ) (s a b i j : ℕ) → w s ≡ int_max (w a) (w b) → (w a ≡ pos (suc i)) ⊎ ((w a ≡ pos 0) × (i ≡ 0)) → (w b ≡ pos (suc j)) ⊎ ((w b ≡ pos 0) × (j ≡ 0)) → (w a ≡ pos 0 → w b ≡ pos 0 → ⊥) → w s ≡ pos (suc (max i j))
 status_of_both w s a b i j h (inl x) (inl y) some = status_is w s a b (suc i) (suc j) (suc (max i j)) h x y (omega arith)
 status_of_both w s a b i j h (inl x) (inr y) some = let e = y.1 in status_is w s a b (suc i) 0 (suc (max i j)) h x y.0 (omega (arith, e))
 status_of_both w s a b i j h (inr x) (inl y) some = let e = x.1 in status_is w s a b 0 (suc j) (suc (max i j)) h x.0 y (omega (arith, e))
@@ -139,7 +140,7 @@ pub second_zero : (i j : ℕ) → max i j ≡ 1 → (j == 1) ≡ false → j ≡
 second_zero i j h e = grind (arith, nat_tests)
 
 abbrev pub par_active : (tables : Tables) (last : ℕ → ℤ) (env : Env) (x w : ℕ → ℤ) (p q t s : Stmt) (l : ℕ) (own : List Equation) (c : Context) (a b : Copy)
-    → w (c.next + 3) ≡ pos (max (to_nat (w a.status)) (to_nat (w b.status))) → Keeps w c.next c.keep c.hold (c.next + 3) → is_on w c.hold ≡ false
+    → w (c.next + 3) ≡ int_max (w a.status) (w b.status) → Keeps w c.next c.keep c.hold (c.next + 3) → is_on w c.hold ≡ false
     → Branch tables last env x w p t c.register c.next a → Branch tables last env x w q s (c.register + registers tables p) c.next b
     → (w a.status ≡ pos 0 → w b.status ≡ pos 0 → ⊥)
     → ((o i : Tick) → Ticks tables last t env x o → Ticks tables last s env x i → variables_of_both p o.variables i.variables ≡ variables_of_both t o.variables i.variables)
@@ -171,7 +172,7 @@ par_active tables last env x w p q t s l own c a b h keeps off u v some same =
     }
 
 quiet_beside : (tables : Tables) (w x : ℕ → ℤ) (p : Stmt) (l : ℕ) (own : List Equation) (c : Context) (a b : Copy)
-    → w (c.next + 3) ≡ pos (max (to_nat (w a.status)) (to_nat (w b.status))) → Quiet w x a → Quiet w x b → Quiet w x (beside tables p l own c a b)
+    → w (c.next + 3) ≡ int_max (w a.status) (w b.status) → Quiet w x a → Quiet w x b → Quiet w x (beside tables p l own c a b)
 quiet_beside tables w x p l own c a b h u v =
     record {
       status = status_is w (c.next + 3) a.status b.status 0 0 0 h u.status v.status refl;
@@ -180,13 +181,13 @@ quiet_beside tables w x p l own c a b h u v =
     }
 
 pub par_silent : (tables : Tables) (w x : ℕ → ℤ) (p : Stmt) (l : ℕ) (own : List Equation) (c : Context) (a b : Copy)
-    → w (c.next + 3) ≡ pos (max (to_nat (w a.status)) (to_nat (w b.status))) → Silent w x a → Silent w x b → Silent w x (beside tables p l own c a b)
+    → w (c.next + 3) ≡ int_max (w a.status) (w b.status) → Silent w x a → Silent w x b → Silent w x (beside tables p l own c a b)
 par_silent tables w x p l own c a b h u v =
     let m = c.register + registers tables p in
     record { quiet = quiet_beside tables w x p l own c a b h u.quiet v.quiet; sets = off_joined w (below m a.sets) (from m b.sets) (off_below w m a.sets u.sets) (off_from w m b.sets v.sets) }
 
 pub par_held : (tables : Tables) (f w x : ℕ → ℤ) (p q : Stmt) (l : ℕ) (own : List Equation) (c : Context) (a b : Copy)
-    → w (c.next + 3) ≡ pos (max (to_nat (w a.status)) (to_nat (w b.status))) → Keeps w c.next c.keep c.hold (c.next + 3) → is_on w c.hold ≡ true
+    → w (c.next + 3) ≡ int_max (w a.status) (w b.status) → Keeps w c.next c.keep c.hold (c.next + 3) → is_on w c.hold ≡ true
     → Held tables f w x p c.register c.next a → Held tables f w x q (c.register + registers tables p) c.next b
     → Held tables f w x (Par p q) c.register c.keep (beside tables p l own c a b)
 par_held tables f w x p q l own c a b h keeps on u v =

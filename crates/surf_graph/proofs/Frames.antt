@@ -1,7 +1,7 @@
 -- Wires below a limit: what a copy's equations say and tell depends on its own wires and on those given.
 use Rattle.std.proofs.Common.{◌≡◌, ℕ, suc, max, ◌+◌, ◌-◌, ◌<◌, ◌≤◌, nat_lt, ◌==◌, ℤ, pos, Bool, true, false, ◌&&◌, ◌||◌, not, cond, List, [], ◌∷◌, ◌++◌, get_or, refl, sym, ap, ap₂, ◌∙◌, subst, arith}
 use Rattle.std.proofs.Math.Path.{fun_ext}
-use Rattle.java_values.specs.Arithmetic.{is_true, applied1, applied2, cast_to}
+use Rattle.java_values.specs.Arithmetic.{is_true}
 use Rattle.kernel_terms.specs.declared.tables.Tables.{Tables}
 use Rattle.kernel_terms.specs.TableEntries.{value_kind}
 use Rattle.kernel_terms.specs.Statements.{Stmt}
@@ -9,9 +9,11 @@ use Rattle.kernel_rules.specs.definitions.Signals.{Env, Emission, combined}
 use Rattle.kernel_rules.specs.definitions.Signals as signals
 use Rattle.kernel_rules.specs.definitions.Expressions.{Readings, value_of, holds}
 use Rattle.kernel_rules.specs.definitions.TickRule.{Tick}
-pub use Rattle.surf_graph.specs.definitions.Shows.{WiresBelow, Agreeing}
+pub use Rattle.surf_graph.specs.definitions.Shows.{Agreeing}
+pub use Rattle.surf_graph.specs.definitions.Formulas.{WiresBelow, Reads, Within}
 use Rattle.java_values.specs.Arithmetic.{of_bool}
-use Rattle.surf_graph.specs.definitions.Formulas.{Not, Apply1, Apply2, Cast, Wires, Formula, Const, Get, Same, And, AndNot, Or, Choose, Status, IsStatus, Greater, OfTrap, OfWeakAbort, Combine, Value, Holds, Equation, Satisfies, formula_value, to_nat, is_on, of_trap, of_weak_abort, told, told_env, readings}
+use Rattle.std.specs.Int.{int_max}
+use Rattle.surf_graph.specs.definitions.Formulas.{Wires, Formula, Const, Get, Same, And, AndNot, Or, Choose, Status, IsStatus, Greater, OfTrap, OfWeakAbort, Combine, Value, Holds, Equation, Satisfies, formula_value, to_nat, is_on, of_trap, of_weak_abort, told, told_env, readings}
 use Rattle.surf_graph.specs.definitions.Copies.{Copy, Emits, Sets}
 use Rattle.surf_graph.specs.definitions.Tells.{emitted, AllOff, Stands, Tells, registers_set, set_value}
 use Rattle.surf_graph.proofs.SetValues.{is_less, is_not_less}
@@ -24,31 +26,6 @@ wires_more n m v le h =
       value = λ x. let b = h.value x in omega (arith, b);
       last = λ x. let b = h.last x in omega (arith, b);
     }
-
-abbrev pub Reads : ℕ → Formula → Type 0
-Reads limit (Const n) = Unit {0}
-Reads limit (Get r) = Unit {0}
-Reads limit (Same a) = a < limit
-Reads limit (And a b) = (a < limit) × (b < limit)
-Reads limit (AndNot a b) = (a < limit) × (b < limit)
-Reads limit (Or a b) = (a < limit) × (b < limit)
-Reads limit (Not a) = a < limit
-Reads limit (Choose c a b) = (c < limit) × (a < limit) × (b < limit)
-Reads limit (Apply1 op k a) = a < limit
-Reads limit (Apply2 op k l a b) = (a < limit) × (b < limit)
-Reads limit (Cast k l a) = a < limit
-Reads limit (Status go code) = go < limit
-Reads limit (IsStatus a n) = a < limit
-Reads limit (Greater a b) = (a < limit) × (b < limit)
-Reads limit (OfTrap a) = a < limit
-Reads limit (OfWeakAbort t a) = (t < limit) × (a < limit)
-Reads limit (Combine info some so_far v) = (some < limit) × (so_far < limit) × (v < limit)
-Reads limit (Value e v) = WiresBelow limit v
-Reads limit (Holds t v) = WiresBelow limit v
-
-abbrev pub Within : ℕ → List Equation → Type 0
-Within limit [] = Unit {0}
-Within limit (e ∷ es) = (e.wire < limit) × (Reads limit e.formula × Within limit es)
 
 abbrev pub EmitsBelow : ℕ → List Emits → Type 0
 EmitsBelow limit [] = Unit {0}
@@ -68,18 +45,14 @@ pub record Inside (n : ℕ) (copy : Copy) : Type 0 where
   pub sets : (k : ℕ) → SetsBelow copy.next (copy.sets k)
   pub equations : Within copy.next copy.equations
 
-reads_more : (n m : ℕ) (f : Formula) → n ≤ m → Reads n f → Reads m f
+pub reads_more : (n m : ℕ) (f : Formula) → n ≤ m → Reads n f → Reads m f
 reads_more n m (Const i) le h = tt
 reads_more n m (Get r) le h = tt
 reads_more n m (Same a) le h = omega (arith, h)
 reads_more n m (And a b) le h = let i = h.0 in let j = h.1 in (omega (arith, i), omega (arith, j))
 reads_more n m (AndNot a b) le h = let i = h.0 in let j = h.1 in (omega (arith, i), omega (arith, j))
 reads_more n m (Or a b) le h = let i = h.0 in let j = h.1 in (omega (arith, i), omega (arith, j))
-reads_more n m (Not a) l r = omega (arith, l, r)
 reads_more n m (Choose c a b) le h = let i = h.0 in let j = h.1 in let k = h.2 in (omega (arith, i), omega (arith, j), omega (arith, k))
-reads_more n m (Apply1 op k a) l r = omega (arith, l, r)
-reads_more n m (Apply2 op k i a b) l r = let x = r.0 in let y = r.1 in (omega (arith, l, x), omega (arith, l, y))
-reads_more n m (Cast k i a) l r = omega (arith, l, r)
 reads_more n m (Status go code) le h = omega (arith, h)
 reads_more n m (IsStatus a k) le h = omega (arith, h)
 reads_more n m (Greater a b) le h = let i = h.0 in let j = h.1 in (omega (arith, i), omega (arith, j))
@@ -146,16 +119,12 @@ value_agrees n f w v (Same a) h r = h.at a r
 value_agrees n f w v (And a b) h r = ap₂ (λ x y. of_bool (is_true x && is_true y)) (h.at a r.0) (h.at b r.1)
 value_agrees n f w v (AndNot a b) h r = ap₂ (λ x y. of_bool (is_true x && not (is_true y))) (h.at a r.0) (h.at b r.1)
 value_agrees n f w v (Or a b) h r = ap₂ (λ x y. of_bool (is_true x || is_true y)) (h.at a r.0) (h.at b r.1)
-value_agrees n f w v (Not a) h r = ap (λ x. of_bool (not (is_true x))) (h.at a r)
 value_agrees n f w v (Choose c a b) h r = ap (λ x. cond (is_true x) (v a) (v b)) (h.at c r.0) ∙ ap₂ (λ x y. cond (is_on w c) x y) (h.at a r.1) (h.at b r.2)
-value_agrees n f w v (Apply1 op k a) h r = ap (λ x. applied1 op k x) (h.at a r)
-value_agrees n f w v (Apply2 op k l a b) h r = ap₂ (λ x y. applied2 op k x l y) (h.at a r.0) (h.at b r.1)
-value_agrees n f w v (Cast k l a) h r = ap (λ x. cast_to l x) (h.at a r)
 value_agrees n f w v (Status go code) h r = ap (λ x. cond (is_true x) (pos (suc code)) (pos 0)) (h.at go r)
-value_agrees n f w v (IsStatus a k) h r = ap (λ x. of_bool (to_nat x == k)) (h.at a r)
-value_agrees n f w v (Greater a b) h r = ap₂ (λ x y. pos (max (to_nat x) (to_nat y))) (h.at a r.0) (h.at b r.1)
-value_agrees n f w v (OfTrap a) h r = ap (λ x. pos (of_trap (to_nat x))) (h.at a r)
-value_agrees n f w v (OfWeakAbort t a) h r = ap₂ (λ x y. cond (is_true x) (pos (of_weak_abort (to_nat y))) y) (h.at t r.0) (h.at a r.1)
+value_agrees n f w v (IsStatus a k) h r = ap (λ x. of_bool (to_nat x == suc k)) (h.at a r)
+value_agrees n f w v (Greater a b) h r = ap₂ int_max (h.at a r.0) (h.at b r.1)
+value_agrees n f w v (OfTrap a) h r = ap of_trap (h.at a r)
+value_agrees n f w v (OfWeakAbort t a) h r = ap₂ (λ x y. cond (is_true x) (of_weak_abort y) y) (h.at t r.0) (h.at a r.1)
 value_agrees n f w v (Combine info s a b) h r =
     ap (λ x. cond (is_true x) (combined info.combine (value_kind info) (v a) (v b)) (v b)) (h.at s r.0)
     ∙ ap₂ (λ x y. cond (is_on w s) (combined info.combine (value_kind info) x y) y) (h.at a r.1) (h.at b r.2)

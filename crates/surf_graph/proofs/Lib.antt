@@ -17,4 +17,6 @@ pub mod Joining
 pub mod Solutions
 pub mod StartRests
 pub mod StartShows
+pub mod StatusOperations
 pub mod ExpressionWires
+pub mod FurtherWires

@@ -1,5 +1,5 @@
 -- Copies behind one another: what they tell, from what their parts tell.
-use Rattle.std.proofs.Common.{◌≡◌, ℕ, suc, max, ◌+◌, ◌==◌, ℤ, pos, Bool, true, false, ◌&&◌, ◌||◌, cond, List, [], ◌++◌, refl, sym, ap, ap₂, ◌∙◌, subst, arith}
+use Rattle.std.proofs.Common.{◌≡◌, ℕ, suc, max, ◌+◌, ◌<◌, ◌≤◌, nat_lt, ◌==◌, ℤ, pos, Bool, true, false, ◌&&◌, ◌||◌, cond, List, [], ◌++◌, refl, sym, ap, ap₂, ◌∙◌, subst, arith}
 use Rattle.kernel_terms.specs.declared.tables.Tables.{Tables}
 use Rattle.kernel_terms.specs.Expressions.{Expression}
 use Rattle.kernel_terms.specs.Statements.{Stmt, Seq, If}
@@ -8,12 +8,14 @@ use Rattle.kernel_rules.specs.definitions.TickRule.{Tick, Ticks, Continues, has_
 use Rattle.kernel_rules.specs.definitions.Registers.{registers, live, residual}
 use Rattle.surf_graph.proofs.Booleans.{left_of}
 use Rattle.kernel_rules.proofs.StartingTicks.{ended_zero}
-use Rattle.surf_graph.specs.definitions.Formulas.{Equation, to_nat, is_on, told}
+use Rattle.std.specs.Int.{int_max}
+use Rattle.surf_graph.specs.definitions.Formulas.{Equation, is_on, told}
 use Rattle.surf_graph.specs.definitions.Copies.{Copy, Sets, below, from, joined, behind}
 use Rattle.surf_graph.specs.definitions.Tells.{Off, registers_set, Stands, Tells, Active, Quiet, Silent}
 use Rattle.surf_graph.proofs.SetValues.{off_value, set_first, set_second, set_before_off, set_after_off, emitted_first, emitted_append, pure_append}
 use Rattle.surf_graph.proofs.RegisterRanges.{remain, stands_still, Dead, dead, first_dead, second_dead}
 use Rattle.surf_graph.proofs.Leavings.{left_whole}
+use Rattle.std.proofs.lemmas.Bool.Decides.{nat_tests}
 
 pub by_cases : {C : Type 0} (b : Bool) → (b ≡ true → C) → (b ≡ false → C) → C
 by_cases true f g = f refl
@@ -89,8 +91,14 @@ Seq_second tables p q x n r d s =
 
 -- statuses
 
-pub status_is : (w : ℕ → ℤ) (n a b i j k : ℕ) → w n ≡ pos (max (to_nat (w a)) (to_nat (w b))) → w a ≡ pos i → w b ≡ pos j → max i j ≡ k → w n ≡ pos k
-status_is w n a b i j k h ea eb e = h ∙ ap₂ (λ y z. pos (max (to_nat y) (to_nat z))) ea eb ∙ ap pos e
+pub greater_of : (i j : ℕ) → int_max (pos i) (pos j) ≡ pos (max i j)
+greater_of i j =
+    by_cases (nat_lt j i)
+    (λ e. ap (λ b. cond b (pos i) (pos j)) e ∙ ap pos (let lt : j < i = grind (arith, nat_tests) in omega (arith, lt)))
+    (λ e. ap (λ b. cond b (pos i) (pos j)) e ∙ ap pos (let le : i ≤ j = grind (arith, nat_tests) in omega (arith, le)))
+
+pub status_is : (w : ℕ → ℤ) (n a b i j k : ℕ) → w n ≡ int_max (w a) (w b) → w a ≡ pos i → w b ≡ pos j → max i j ≡ k → w n ≡ pos k
+status_is w n a b i j k h ea eb e = h ∙ ap₂ int_max ea eb ∙ greater_of i j ∙ ap pos e
 
 pub unpaused : (code : ℕ) → has_ended code ≡ true → (code == 1) ≡ false
 unpaused code h = let e = ended_zero code h in ap (λ z. z == 1) e
@@ -100,7 +108,7 @@ off_ended tables w p n keep copy o t h = t.unset (ap (λ b. b && is_on w keep) h
 
 -- quiet copies
 
-pub quiet_behind : (w x : ℕ → ℤ) (n l : ℕ) (S T : ℕ → List Sets) (own : List Equation) (a b : Copy) → w n ≡ pos (max (to_nat (w a.status)) (to_nat (w b.status))) → Quiet w x a → Quiet w (told w a.variables) b → Quiet w x (behind n l S T own a b)
+pub quiet_behind : (w x : ℕ → ℤ) (n l : ℕ) (S T : ℕ → List Sets) (own : List Equation) (a b : Copy) → w n ≡ int_max (w a.status) (w b.status) → Quiet w x a → Quiet w (told w a.variables) b → Quiet w x (behind n l S T own a b)
 quiet_behind w x n l S T own a b h u v =
     record {
       status = status_is w n a.status b.status 0 0 0 h u.status v.status refl;
@@ -119,7 +127,7 @@ continues_waits second q a e = subst (λ z. Continues second q a z (as_whole a.c
 -- `P` is the sequence, or a loop that starts anew: its first part ends, and its second part ticks
 pub turn_ended :
     (tables : Tables) (w : ℕ → ℤ) (p q P q' : Stmt) (n m N keep k l : ℕ) (S U : ℕ → List Sets) (own : List Equation) (a b : Copy)
-    → w k ≡ pos (max (to_nat (w a.status)) (to_nat (w b.status))) → (o i : Tick) → Tells tables w p n keep a o → Tells tables w q' m keep b i → has_ended o.code ≡ true
+    → w k ≡ int_max (w a.status) (w b.status) → (o i : Tick) → Tells tables w p n keep a o → Tells tables w q' m keep b i → has_ended o.code ≡ true
     → ((s : Stmt) → Off w a.sets → Stands tables q' m (registers_set w b.sets) s → Stands tables P N (registers_set w (joined S U)) s)
     → (Off w a.sets → Off w b.sets → Off w (joined S U))
     → Tells tables w P N keep (behind k l S U own a b) (record i { emits = o.emits ++ i.emits })
@@ -137,7 +145,7 @@ turn_ended tables w p q P q' n m N keep k l S U own a b h o i y z e second off =
 -- its first part doesn't end
 pub turn_waits :
     (tables : Tables) (w : ℕ → ℤ) (p q P q' : Stmt) (n m N keep k l : ℕ) (S U : ℕ → List Sets) (own : List Equation) (a b : Copy)
-    → w k ≡ pos (max (to_nat (w a.status)) (to_nat (w b.status))) → (o : Tick) → Tells tables w p n keep a o → Silent w (told w a.variables) b
+    → w k ≡ int_max (w a.status) (w b.status) → (o : Tick) → Tells tables w p n keep a o → Silent w (told w a.variables) b
     → ((s : Stmt) → Off w b.sets → Stands tables p n (registers_set w a.sets) s → Stands tables P N (registers_set w (joined S U)) (Seq s q))
     → (Off w a.sets → Off w b.sets → Off w (joined S U))
     → Tells tables w P N keep (behind k l S U own a b) (as_whole o.code (Seq o.rest q) o)
@@ -154,7 +162,7 @@ turn_waits tables w p q P q' n m N keep k l S U own a b h o y v first off =
 
 pub turn_active :
     (tables : Tables) (last : ℕ → ℤ) (env : Env) (x w : ℕ → ℤ) (p q t P q' : Stmt) (n m N keep k l : ℕ) (S U : ℕ → List Sets) (own : List Equation) (a b : Copy)
-    → w k ≡ pos (max (to_nat (w a.status)) (to_nat (w b.status))) → (u : Active tables last env x w p t n keep a)
+    → w k ≡ int_max (w a.status) (w b.status) → (u : Active tables last env x w p t n keep a)
     → (has_ended (u.tick).code ≡ true → Active tables last env (told w a.variables) w q' q m keep b) → (has_ended (u.tick).code ≡ false → Silent w (told w a.variables) b)
     → ((s : Stmt) → Off w b.sets → Stands tables p n (registers_set w a.sets) s → Stands tables P N (registers_set w (joined S U)) (Seq s q))
     → ((s : Stmt) → Off w a.sets → Stands tables q' m (registers_set w b.sets) s → Stands tables P N (registers_set w (joined S U)) s)

@@ -16,6 +16,7 @@ use Rattle.kernel_rules.specs.definitions.Registers.{registers}
 use Rattle.kernel_rules.proofs.StartingTicks.{ended_zero, starting_allows}
 use Rattle.surf_graph.proofs.Booleans.{left_of, or_left}
 use Rattle.java_values.specs.Arithmetic.{of_bool}
+use Rattle.std.specs.Int.{int_max}
 use Rattle.surf_graph.specs.definitions.Formulas.{Wires, Value, Holds, Const, Equation, Satisfies, formula_value, to_nat, is_on, told, told_env, readings}
 use Rattle.surf_graph.specs.definitions.Copies.{Copy, Context, Sets, below, from, joined, behind, plain_copy, starting_if, other_context, has, joins, both_write, alternatives, start_context, part_context, choice_own, turn_own, branch_context, second_branch, weak_context, tested_context, local_context, fold_emits, emitted_value}
 use Rattle.surf_graph.specs.definitions.StartingCopies.{writes0, start}
@@ -102,7 +103,7 @@ never_one d h = let e : (exit_code d == 1) ≡ false = grind (arith, nat_tests) 
 -- choices
 
 abbrev pub choice_first : (tables : Tables) (last : ℕ → ℤ) (env : Env) (x f w : ℕ → ℤ) (xs ys : List ℕ) (other : ℕ) (e : Expression) (p q t P T : Stmt) (n keep k l : ℕ) (own : List Equation) (a b : Copy)
-    → w k ≡ pos (max (to_nat (w a.status)) (to_nat (w b.status))) → Joins f w xs ys other a b → is_on w other ≡ false → ((y : ℕ) → has xs y ≡ false → told w a.variables y ≡ x y) → Active tables last env x w p t n keep a → Silent w x b
+    → w k ≡ int_max (w a.status) (w b.status) → Joins f w xs ys other a b → is_on w other ≡ false → ((y : ℕ) → has xs y ≡ false → told w a.variables y ≡ x y) → Active tables last env x w p t n keep a → Silent w x b
     → ((o : Tick) → Ticks tables last t env x o → Ticks tables last T env x o)
     → ((s : Stmt) → (r : ℕ → ℤ) → Stands tables (If e p q) n r s → Stands tables P n r s)
     → Active tables last env x w P T n keep (alternatives xs ys other k l (below (n + registers tables p) a.sets) (from (n + registers tables p) b.sets) own a b)
@@ -114,7 +115,7 @@ choice_first tables last env x f w xs ys other e p q t P T n keep k l own a b h 
     (λ i. off_joined w (below m a.sets) (from m b.sets) (off_below w m a.sets i) (off_from w m b.sets v.sets))
 
 abbrev pub choice_second : (tables : Tables) (last : ℕ → ℤ) (env : Env) (x f w : ℕ → ℤ) (xs ys : List ℕ) (other : ℕ) (e : Expression) (p q t P T : Stmt) (n keep k l : ℕ) (own : List Equation) (a b : Copy)
-    → w k ≡ pos (max (to_nat (w a.status)) (to_nat (w b.status))) → Joins f w xs ys other a b → is_on w other ≡ true → ((y : ℕ) → has ys y ≡ false → told w b.variables y ≡ x y) → Silent w x a → Active tables last env x w q t (n + registers tables p) keep b
+    → w k ≡ int_max (w a.status) (w b.status) → Joins f w xs ys other a b → is_on w other ≡ true → ((y : ℕ) → has ys y ≡ false → told w b.variables y ≡ x y) → Silent w x a → Active tables last env x w q t (n + registers tables p) keep b
     → ((o : Tick) → Ticks tables last t env x o → Ticks tables last T env x o)
     → ((s : Stmt) → (r : ℕ → ℤ) → Stands tables (If e p q) n r s → Stands tables P n r s)
     → Active tables last env x w P T n keep (alternatives xs ys other k l (below (n + registers tables p) a.sets) (from (n + registers tables p) b.sets) own a b)
@@ -127,7 +128,7 @@ choice_second tables last env x f w xs ys other e p q t P T n keep k l own a b h
 
 -- a sequence whose first part ticks, of starting copies or of a resuming and a starting one
 pub seq_active : (tables : Tables) (last : ℕ → ℤ) (env : Env) (x w : ℕ → ℤ) (p q t : Stmt) (n keep k l : ℕ) (own : List Equation) (a b : Copy)
-    → w k ≡ pos (max (to_nat (w a.status)) (to_nat (w b.status))) → (u : Active tables last env x w p t n keep a)
+    → w k ≡ int_max (w a.status) (w b.status) → (u : Active tables last env x w p t n keep a)
     → (has_ended (u.tick).code ≡ true → Active tables last env (told w a.variables) w q q (n + registers tables p) keep b)
     → (has_ended (u.tick).code ≡ false → Silent w (told w a.variables) b)
     → Active tables last env x w (Seq p q) (Seq t q) n keep (behind k l (below (n + registers tables p) a.sets) (from (n + registers tables p) b.sets) own a b)

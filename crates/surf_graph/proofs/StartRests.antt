@@ -8,6 +8,7 @@ use Rattle.kernel_terms.specs.MayEnd.{ends0}
 use Rattle.kernel_rules.specs.definitions.Signals.{is_emitted, values_of}
 use Rattle.kernel_rules.specs.definitions.Registers.{registers}
 use Rattle.java_values.specs.Arithmetic.{of_bool}
+use Rattle.std.specs.Int.{int_max}
 use Rattle.surf_graph.specs.definitions.Formulas.{Value, Holds, Equation, Satisfies, formula_value, to_nat, is_on, of_trap, of_weak_abort, told}
 use Rattle.surf_graph.specs.definitions.Copies.{Copy, Context, starting_if, other_context, joins, both_write, start_context, part_context, branch_context, second_branch, weak_context, tested_context, local_context, fold_emits, emitted_value}
 use Rattle.surf_graph.specs.definitions.StartingCopies.{writes0, start}
@@ -36,8 +37,8 @@ and_zero w v n a b h lt off = sym (ap (λ x. of_bool (x && is_on v b)) (at n a w
 and_not_zero : (w v : ℕ → ℤ) (n a b : ℕ) → Agreeing n w v → a < n → is_on w a ≡ false → pos 0 ≡ of_bool (is_on v a && not (is_on v b))
 and_not_zero w v n a b h lt off = sym (ap (λ x. of_bool (x && not (is_on v b))) (at n a w v false h lt off))
 
-pub max_zero : (v : ℕ → ℤ) (a b : ℕ) → v a ≡ pos 0 → v b ≡ pos 0 → pos 0 ≡ pos (max (to_nat (v a)) (to_nat (v b)))
-max_zero v a b h k = sym (ap₂ (λ x y. pos (max (to_nat x) (to_nat y))) h k)
+pub max_zero : (v : ℕ → ℤ) (a b : ℕ) → v a ≡ pos 0 → v b ≡ pos 0 → pos 0 ≡ int_max (v a) (v b)
+max_zero v a b h k = sym (ap₂ int_max h k)
 
 pub start_rests : (tables : Tables) (f w : ℕ → ℤ) (p : Stmt) (c : Context) → Outside c → w 0 ≡ pos 0 → is_on w c.go ≡ false → is_on w c.hold ≡ false → Solution f w c.next (start tables p c)
 start_rests tables f w Nothing c o z off free =
@@ -264,7 +265,7 @@ start_rests tables f w (Trap p) c o z off free =
     let one = one_solved f w n 1 vs a v (omega arith) x.same in
     let g = one.same in
     let sa = start_silent tables f v p (part_context c.go 1 c) (zero_at n w v g o.some z) x.solves (at n c.go w v false g o.go off) (at n c.hold w v false g o.hold free) in
-    record { values = v; same = g; solves = (one.first ∙ sym (ap (λ s. pos (of_trap (to_nat s))) (sa.quiet).status), x.solves) }
+    record { values = v; same = g; solves = (one.first ∙ sym (ap of_trap (sa.quiet).status), x.solves) }
 start_rests tables f w (Exit d) c o z off free =
     let n = c.next in
     let vs = pos 0 ∷ [] in
@@ -296,7 +297,7 @@ start_rests tables f w (Abort true true t p) c o z off free =
           (
             one.own 2 (omega arith) ∙ sym (ap₂ (λ s r. of_bool (s || is_true r)) hold (one.own 4 (omega arith))),
             (
-              one.own 3 (omega arith) ∙ sym (ap (λ s. cond (is_on v (n + 1)) (pos (of_weak_abort (to_nat s))) s) (sa.quiet).status ∙ either (is_on v (n + 1))),
+              one.own 3 (omega arith) ∙ sym (ap (λ s. cond (is_on v (n + 1)) (of_weak_abort s) s) (sa.quiet).status ∙ either (is_on v (n + 1))),
               (one.own 4 (omega arith) ∙ sym (ap (λ s. of_bool (to_nat s == 2)) (one.own 3 (omega arith))), x.solves),
             ),
           ),
@@ -307,7 +308,7 @@ start_rests tables f w (Abort true true t p) c o z off free =
       gone true = refl
       gone false = refl
 
-      either : (b : Bool) → cond b (pos (of_weak_abort 0)) (pos 0) ≡ pos 0
+      either : (b : Bool) → cond b (of_weak_abort (pos 0)) (pos 0) ≡ pos 0
       either true = refl
       either false = refl
 start_rests tables f w (Abort false true t p) c o z off free =

@@ -14,13 +14,14 @@ use Rattle.kernel_rules.specs.definitions.Registers.{registers}
 use Rattle.kernel_rules.proofs.StartingTicks.{ended_zero, starting_allows}
 use Rattle.surf_graph.proofs.Booleans.{or_left}
 use Rattle.java_values.specs.Arithmetic.{of_bool}
+use Rattle.std.specs.Int.{int_max}
 use Rattle.surf_graph.specs.definitions.Formulas.{Wires, Formula, Value, Holds, Const, Satisfies, formula_value, to_nat, is_on, of_trap, of_weak_abort, told, told_env, readings}
 use Rattle.surf_graph.specs.definitions.Copies.{Copy, Context, below, from, joined, starting_if, other_context, joins, both_write, alternatives, start_context, part_context, choice_own, turn_own, branch_context, second_branch, weak_context, weak_copy, tested_context, tested_copy, local_context, fold_emits, emitted_value}
 use Rattle.surf_graph.specs.definitions.StartingCopies.{writes0, start}
 use Rattle.surf_graph.specs.definitions.Tells.{Tells, Active, Stands, registers_set}
 use Rattle.surf_graph.specs.definitions.Sources.{IsSource}
 use Rattle.surf_graph.proofs.SetValues.{truth_of, off_joined, off_below, off_from}
-use Rattle.surf_graph.proofs.Parts.{by_cases, first_stands, second_stands, first_dies, second_dies, Seq_first, Seq_second, turn_ended, turn_waits}
+use Rattle.surf_graph.proofs.Parts.{greater_of, by_cases, first_stands, second_stands, first_dies, second_dies, Seq_first, Seq_second, turn_ended, turn_waits}
 use Rattle.surf_graph.proofs.Beside.{branch_ticks, par_active, next_one}
 use Rattle.surf_graph.proofs.Wraps.{trap_active, trap_status, weak_status, weak_stops, weak_goes, whole_tells, strong_stops, abort_stands, suspend_stands}
 use Rattle.surf_graph.proofs.Locals.{local_equations, told_local, fold_says, folded_from}
@@ -54,8 +55,8 @@ status_one w v n go code h lt on = sym (ap (λ b. cond b (pos (suc code)) (pos 0
 pub and_first : (w v : ℕ → ℤ) (n a b : ℕ) (x : Bool) → Agreeing n w v → a < n → is_on w a ≡ true → is_on v b ≡ x → of_bool x ≡ of_bool (is_on v a && is_on v b)
 and_first w v n a b x h lt on e = sym (ap₂ (λ i j. of_bool (i && j)) (at n a w v true h lt on) e)
 
-pub max_of : (v : ℕ → ℤ) (a b i j k : ℕ) → v a ≡ pos i → v b ≡ pos j → max i j ≡ k → pos k ≡ pos (max (to_nat (v a)) (to_nat (v b)))
-max_of v a b i j k h l e = sym (ap₂ (λ x y. pos (max (to_nat x) (to_nat y))) h l ∙ ap pos e)
+pub max_of : (v : ℕ → ℤ) (a b i j k : ℕ) → v a ≡ pos i → v b ≡ pos j → max i j ≡ k → pos k ≡ int_max (v a) (v b)
+max_of v a b i j k h l e = sym (ap₂ int_max h l ∙ greater_of i j ∙ ap pos e)
 
 pub shows_if : (tables : Tables) (f w : ℕ → ℤ) (p : Stmt) (r keep n : ℕ) (b : Bool) (a : Copy) (c : Context) (o : Tick) → b ≡ true → Shows tables f w p r keep n a o → Shows tables f w p r keep n (starting_if b a c) o
 shows_if tables f w p r keep n true a c o e s = s
@@ -124,7 +125,7 @@ choice_shows tables f w e p q P c o out z on free cf reads true eq stands first 
     let keep = out.keep in
     let sb = start_silent tables f v q d (zero_at n w v g out.some z) t.solves_second (ap is_true (one.own 4 (omega arith))) (at n c.hold w v false g out.hold free) in
     let ta = part_tells tables f w0 v p d0.register d0.keep d0.next a o (n + 5) x y.same i (omega (arith, grows, keep)) in
-    let e0 : v n ≡ pos (max (to_nat (v a.status)) (to_nat (v b.status))) = one.first ∙ max_of v a.status b.status (suc o.code) 0 (suc o.code) ta.status (sb.quiet).status (omega arith) in
+    let e0 : v n ≡ int_max (v a.status) (v b.status) = one.first ∙ max_of v a.status b.status (suc o.code) 0 (suc o.code) ta.status (sb.quiet).status (omega arith) in
     let ua : Active tables (told v c.wires.last) (told_env v c.wires) (told v c.wires.variables) v p p c.register c.keep a = record { tick = o; ticks = moved tables n w v p c.wires o g out.wires h; tells = ta } in
     let whole = choice_first tables (told v c.wires.last) (told_env v c.wires) (told v c.wires.variables) f v (writes0 p) (writes0 q) (n + 4) e p q p P p c.register c.keep n 0 (choice_own cf c) a b e0 jn.joins (ap is_true (one.own 4 (omega arith))) (λ y i. ap v (start_passes tables p d0 y i)) ua sb (λ o k. k) stands in
     record {
@@ -178,7 +179,7 @@ choice_shows tables f w e p q P c o out z on free cf reads false eq stands first
     let g = one.same in
     let tb = y.tells in
     let sa = start_silent tables f v p d0 (zero_at n w v g out.some z) t.solves_first (ap is_true (one.own 3 (omega arith))) (at n c.hold w v false g out.hold free) in
-    let e0 : v n ≡ pos (max (to_nat (v a.status)) (to_nat (v b.status))) = one.first ∙ max_of v a.status b.status 0 (suc o.code) (suc o.code) (sa.quiet).status tb.status (omega arith) in
+    let e0 : v n ≡ int_max (v a.status) (v b.status) = one.first ∙ max_of v a.status b.status 0 (suc o.code) (suc o.code) (sa.quiet).status tb.status (omega arith) in
     let ub : Active tables (told v c.wires.last) (told_env v c.wires) (told v c.wires.variables) v q q m c.keep b = record { tick = o; ticks = moved tables n w v q c.wires o g out.wires h; tells = tb } in
     let whole = choice_second tables (told v c.wires.last) (told_env v c.wires) (told v c.wires.variables) f v (writes0 p) (writes0 q) (n + 4) e p q q P q c.register c.keep n 0 (choice_own cf c) a b e0 jn.joins (ap is_true (one.own 4 (omega arith))) (λ y i. ap v (start_passes tables q d y i)) sa ub (λ o k. k) stands in
     record {
@@ -225,8 +226,8 @@ weak_shows tables f w test p c o out z on free true eq body h =
     let free_v = at n c.hold w v false g out.hold free in
     let ks = keep_equations v n (n + 4) (n + 2) (n + 3) c.keep c.hold code (is_on w c.keep) (at n c.keep w v (is_on w c.keep) g out.keep refl) free_v (one.own 3 (omega arith)) one.first (one.own 4 (omega arith)) (one.own 2 (omega arith)) in
     let ht : is_on v (n + 1) ≡ holds (told_env w c.wires) test = ap is_true (one.own 1 (omega arith)) ∙ truth_of (holds (told_env w c.wires) test) in
-    let e3 : v (n + 3) ≡ cond (is_on v (n + 1)) (pos (of_weak_abort (to_nat (v a.status)))) (v a.status) =
-    one.own 3 (omega arith) ∙ sym (ap (λ s. cond s (pos (of_weak_abort (to_nat (v a.status)))) (v a.status)) (ht ∙ eq) ∙ ap (λ s. pos (of_weak_abort (to_nat s))) (x.tells).status ∙ ap pos (weak_status i.code)) in
+    let e3 : v (n + 3) ≡ cond (is_on v (n + 1)) (of_weak_abort (v a.status)) (v a.status) =
+    one.own 3 (omega arith) ∙ sym (ap (λ s. cond s (of_weak_abort (v a.status)) (v a.status)) (ht ∙ eq) ∙ ap of_weak_abort (x.tells).status ∙ weak_status i.code) in
     record {
       values = v;
       same = g;
@@ -252,8 +253,8 @@ weak_shows tables f w test p c o out z on free false eq body h =
     let free_v = at n c.hold w v false g out.hold free in
     let ks = keep_equations v n (n + 4) (n + 2) (n + 3) c.keep c.hold code (is_on w c.keep) (at n c.keep w v (is_on w c.keep) g out.keep refl) free_v (one.own 3 (omega arith)) one.first (one.own 4 (omega arith)) (one.own 2 (omega arith)) in
     let ht : is_on v (n + 1) ≡ holds (told_env w c.wires) test = ap is_true (one.own 1 (omega arith)) ∙ truth_of (holds (told_env w c.wires) test) in
-    let e3 : v (n + 3) ≡ cond (is_on v (n + 1)) (pos (of_weak_abort (to_nat (v a.status)))) (v a.status) =
-    one.own 3 (omega arith) ∙ sym (ap (λ s. cond s (pos (of_weak_abort (to_nat (v a.status)))) (v a.status)) (ht ∙ eq) ∙ (x.tells).status) in
+    let e3 : v (n + 3) ≡ cond (is_on v (n + 1)) (of_weak_abort (v a.status)) (v a.status) =
+    one.own 3 (omega arith) ∙ sym (ap (λ s. cond s (of_weak_abort (v a.status)) (v a.status)) (ht ∙ eq) ∙ (x.tells).status) in
     record {
       values = v;
       same = g;
@@ -454,7 +455,7 @@ start_shows tables f w (Seq p q) c o out src l z on free h =
     let ta = part_tells tables f w0 v p r c.keep (n + 3) a i (n + 3) x y.same ia (omega (arith, grows, keep)) in
     let tb = y.tells in
     let zero_code = ended_zero i.code e in
-    let e0 : v n ≡ pos (max (to_nat (v a.status)) (to_nat (v b.status))) = one.first ∙ max_of v a.status b.status (suc i.code) (suc j.code) (suc j.code) ta.status tb.status (omega (arith, zero_code)) in
+    let e0 : v n ≡ int_max (v a.status) (v b.status) = one.first ∙ max_of v a.status b.status (suc i.code) (suc j.code) (suc j.code) ta.status tb.status (omega (arith, zero_code)) in
     let R = registers_set v (joined (below m a.sets) (from m b.sets)) in
     let whole = turn_ended tables v p q (Seq p q) q r m r c.keep n 0 (below m a.sets) (from m b.sets) (turn_own (n + 2) a) a b e0 i j ta tb e
     (λ s off st. Seq_second tables p q s r R (first_dies tables v p r a.sets b.sets off) (second_stands tables v q s m a.sets b.sets st))
@@ -502,7 +503,7 @@ start_shows tables f w (Seq p q) c o out src l z on free h =
     let zv = zero_at n w v g out.some z in
     let ta = part_tells tables f w0 v p r c.keep (n + 3) a i (n + 3) x y.same ia (omega (arith, grows, keep)) in
     let sb = silent_if f v (told v a.variables) (ends0 p) (start tables q d) d zv t.solves_second (λ j. start_silent tables f v q d zv j (ap is_true (one.own 2 (omega arith))) (ap is_true zv)) in
-    let e0 : v n ≡ pos (max (to_nat (v a.status)) (to_nat (v b.status))) = one.first ∙ max_of v a.status b.status (suc i.code) 0 (suc i.code) ta.status (sb.quiet).status (omega arith) in
+    let e0 : v n ≡ int_max (v a.status) (v b.status) = one.first ∙ max_of v a.status b.status (suc i.code) 0 (suc i.code) ta.status (sb.quiet).status (omega arith) in
     let R = registers_set v (joined (below m a.sets) (from m b.sets)) in
     let whole = turn_waits tables v p q (Seq p q) q r m r c.keep n 0 (below m a.sets) (from m b.sets) (turn_own (n + 2) a) a b e0 i ta sb
     (λ s off st. Seq_first tables p q s r R (first_stands tables v p s r a.sets b.sets st) (second_dies tables v q m a.sets b.sets off))
@@ -568,7 +569,7 @@ start_shows tables f w (Par p q) c o out src l z on free h =
     let ta = part_tells tables f w0 v p r n (n + 5) a i (n + 5) x y.same ia (omega (arith, grows)) in
     let tb = y.tells in
     let free_v = at n c.hold w v false g out.hold free in
-    let e3 : v (n + 3) ≡ pos (max (to_nat (v a.status)) (to_nat (v b.status))) = one.own 3 (omega arith) ∙ max_of v a.status b.status (suc i.code) (suc j.code) (suc code) ta.status tb.status (omega arith) in
+    let e3 : v (n + 3) ≡ int_max (v a.status) (v b.status) = one.own 3 (omega arith) ∙ max_of v a.status b.status (suc i.code) (suc j.code) (suc code) ta.status tb.status (omega arith) in
     let ks = keep_equations v n (n + 1) (n + 2) (n + 3) c.keep c.hold code (is_on w c.keep) (at n c.keep w v (is_on w c.keep) g out.keep refl) free_v (one.own 3 (omega arith)) one.first (one.own 1 (omega arith)) (one.own 2 (omega arith)) in
     let ua : Active tables last env vars v p p r n a = record { tick = i; ticks = h.2; tells = ta } in
     let ub : Active tables last env vars v q q m n b = record { tick = j; ticks = h.3; tells = tb } in
@@ -594,7 +595,7 @@ start_shows tables f w (Trap p) c o out src l z on free h =
     let x = start_shows tables f w0 p d0 i (outside_part c.go 1 c out (omega (arith, go))) src l (zero_at n w w0 g0 out.some z) (at n c.go w w0 true g0 out.go on) (at n c.hold w w0 false g0 out.hold free) (moved tables n w w0 p c.wires i g0 out.wires h.1) in
     let v = x.values in
     let one = one_solved f w n 1 vs a v (omega arith) x.same in
-    let e0 : v n ≡ pos (of_trap (to_nat (v a.status))) = one.first ∙ sym (ap (λ s. pos (of_trap (to_nat s))) (x.tells).status ∙ ap pos (trap_status i.code)) in
+    let e0 : v n ≡ of_trap (v a.status) = one.first ∙ sym (ap of_trap (x.tells).status ∙ trap_status i.code) in
     let last = told w c.wires.last in
     let env = told_env w c.wires in
     let vars = told w c.wires.variables in

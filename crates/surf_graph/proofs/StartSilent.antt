@@ -13,6 +13,7 @@ use Rattle.kernel_rules.specs.definitions.Signals.{put_at}
 use Rattle.kernel_rules.specs.definitions.Expressions.{holds}
 use Rattle.kernel_rules.specs.definitions.Registers.{registers}
 use Rattle.java_values.specs.Arithmetic.{of_bool}
+use Rattle.std.specs.Int.{int_max}
 use Rattle.surf_graph.specs.definitions.Formulas.{Value, Holds, Const, Equation, Satisfies, to_nat, is_on, of_trap, told, told_env}
 use Rattle.surf_graph.specs.definitions.Copies.{Copy, Context, below, from, behind, nothing_built, plain_copy, starting_if, other_context, joins, both_write, start_context, part_context, choice_own, turn_own, branch_context, second_branch, weak_context, tested_context, tested_copy, local_context, fold_emits}
 use Rattle.surf_graph.specs.definitions.StartingCopies.{writes0, start}
@@ -55,7 +56,7 @@ pub silent_if : (f w x : ℕ → ℤ) (b : Bool) (a : Copy) (c : Context) → w 
 silent_if f w x true a c z h s = s h
 silent_if f w x false a c z h s = nothing_quiet w c z
 
-pub silent_pair : (w x : ℕ → ℤ) (n l m : ℕ) (own : List Equation) (a b : Copy) → w n ≡ pos (max (to_nat (w a.status)) (to_nat (w b.status))) → Silent w x a → Silent w (told w a.variables) b → Silent w x (behind n l (below m a.sets) (from m b.sets) own a b)
+pub silent_pair : (w x : ℕ → ℤ) (n l m : ℕ) (own : List Equation) (a b : Copy) → w n ≡ int_max (w a.status) (w b.status) → Silent w x a → Silent w (told w a.variables) b → Silent w x (behind n l (below m a.sets) (from m b.sets) own a b)
 silent_pair w x n l m own a b h u v =
     record {
       quiet = quiet_behind w x n l (below m a.sets) (from m b.sets) own a b h u.quiet v.quiet;
@@ -148,7 +149,7 @@ start_silent tables f w (Par p q) c z h off free =
 start_silent tables f w (Trap p) c z h off free =
     let u = start_silent tables f w p (part_context c.go 1 c) z h.1 off free in
     let q = u.quiet in
-    record { quiet = record { status = h.0 ∙ ap (λ i. pos (of_trap (to_nat i))) q.status; emits = q.emits; variables = q.variables }; sets = u.sets }
+    record { quiet = record { status = h.0 ∙ ap of_trap q.status; emits = q.emits; variables = q.variables }; sets = u.sets }
 start_silent tables f w (Exit d) c z h off free = record { quiet = plain_quiet w (suc (suc d)) c h.0 off; sets = off_none w }
 start_silent tables f w (Abort weak false t p) c z h off free = start_silent tables f w p c z h off free
 start_silent tables f w (Abort true true t p) c z h off free =

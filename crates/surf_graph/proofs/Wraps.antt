@@ -9,7 +9,7 @@ use Rattle.kernel_rules.specs.definitions.Expressions.{holds}
 use Rattle.kernel_rules.specs.definitions.TickRule.{Tick, Ticks, has_exited, has_paused, exit_code, Chosen, Aborts, as_whole, ends_with, quiet, code_of_trap, code_of_weak_abort}
 use Rattle.kernel_rules.specs.definitions.Registers.{live, residual, LivesApart}
 use Rattle.surf_graph.proofs.Booleans.{left_of}
-use Rattle.surf_graph.specs.definitions.Formulas.{Equation, to_nat, is_on, of_trap, of_weak_abort}
+use Rattle.surf_graph.specs.definitions.Formulas.{Equation, is_on, of_trap, of_weak_abort}
 use Rattle.surf_graph.specs.definitions.Copies.{Copy, Context, of_trap_copy, weak_copy, tested_copy}
 use Rattle.surf_graph.specs.definitions.Tells.{registers_set, Stands, Tells, Active, Quiet, Silent, Held}
 use Rattle.surf_graph.proofs.RegisterRanges.{remain_Abort, stands_still}
@@ -17,7 +17,7 @@ use Rattle.surf_graph.proofs.Leavings.{left_whole}
 use Rattle.surf_graph.proofs.Parts.{by_cases}
 use Rattle.surf_graph.proofs.Beside.{Keeps, kept, kept_held, and_off}
 
-pub trap_status : (code : ℕ) → of_trap (suc code) ≡ suc (code_of_trap code)
+pub trap_status : (code : ℕ) → of_trap (pos (suc code)) ≡ pos (suc (code_of_trap code))
 trap_status code = refl
 
 pub trap_pauses : (code : ℕ) → (code_of_trap code == 1) ≡ (code == 1)
@@ -38,7 +38,7 @@ pub suspend_stands : (tables : Tables) (armed : Bool) (t : Test) (p s : Stmt) (n
 suspend_stands tables armed t p s n r h = record { is_live = h.is_live; residual = ap (λ z. Suspend true t z) h.residual; apart = h.apart }
 
 abbrev pub trap_active : (tables : Tables) (last : ℕ → ℤ) (env : Env) (x w : ℕ → ℤ) (p t : Stmt) (c : Context) (a : Copy)
-    → w c.next ≡ pos (of_trap (to_nat (w a.status))) → Active tables last env x w p t c.register c.keep a → Active tables last env x w (Trap p) (Trap t) c.register c.keep (of_trap_copy c a)
+    → w c.next ≡ of_trap (w a.status) → Active tables last env x w p t c.register c.keep a → Active tables last env x w (Trap p) (Trap t) c.register c.keep (of_trap_copy c a)
 trap_active tables last env x w p t c a h u =
     let o = u.tick in
     let y = u.tells in
@@ -47,7 +47,7 @@ trap_active tables last env x w p t c a h u =
       tick = as_whole (code_of_trap o.code) (Trap o.rest) o;
       ticks = (o, u.ticks, refl);
       tells = record {
-        status = h ∙ ap (λ z. pos (of_trap (to_nat z))) y.status ∙ ap pos (trap_status o.code);
+        status = h ∙ ap of_trap y.status ∙ trap_status o.code;
         emits = y.emits;
         variables = y.variables;
         pure = y.pure;
@@ -94,7 +94,7 @@ whole_active tables last env x w p t P T W n keep inner s a h u keeps goes stand
     let o = u.tick in
     record { tick = as_whole o.code (W o.rest) o; ticks = goes o u.ticks; tells = whole_tells tables w p P W n keep inner s a o h u.tells keeps stands es }
 
-pub weak_status : (code : ℕ) → of_weak_abort (suc code) ≡ suc (code_of_weak_abort code)
+pub weak_status : (code : ℕ) → of_weak_abort (pos (suc code)) ≡ pos (suc (code_of_weak_abort code))
 weak_status code = refl
 
 pub weak_goes_on : (code : ℕ) → (code_of_weak_abort code == 1) ≡ false
@@ -102,12 +102,12 @@ weak_goes_on code = by_cases (has_paused code) (λ e. ap (λ b. cond b 0 code ==
 
 -- A weak abort that looks at its test, which holds.
 pub weak_stops : (tables : Tables) (w : ℕ → ℤ) (env : Env) (armed : Bool) (test : Test) (p : Stmt) (c : Context) (a : Copy) (o : Tick)
-    → is_on w (c.next + 1) ≡ holds env test → w (c.next + 3) ≡ cond (is_on w (c.next + 1)) (pos (of_weak_abort (to_nat (w a.status)))) (w a.status)
+    → is_on w (c.next + 1) ≡ holds env test → w (c.next + 3) ≡ cond (is_on w (c.next + 1)) (of_weak_abort (w a.status)) (w a.status)
     → Keeps w c.next c.keep c.hold (c.next + 3) → is_on w c.hold ≡ false → holds env test ≡ true
     → Tells tables w p c.register c.next a o → Tells tables w (Abort true armed test p) c.register c.keep (weak_copy test c a) (as_whole (code_of_weak_abort o.code) Nothing o)
 weak_stops tables w env armed test p c a o ht h keeps off e y =
     let st : w (c.next + 3) ≡ pos (suc (code_of_weak_abort o.code)) =
-    h ∙ ap (λ b. cond b (pos (of_weak_abort (to_nat (w a.status)))) (w a.status)) (ht ∙ e) ∙ ap (λ z. pos (of_weak_abort (to_nat z))) y.status ∙ ap pos (weak_status o.code) in
+    h ∙ ap (λ b. cond b (of_weak_abort (w a.status)) (w a.status)) (ht ∙ e) ∙ ap of_weak_abort y.status ∙ weak_status o.code in
     let k = kept w c.next c.keep c.hold (c.next + 3) (code_of_weak_abort o.code) keeps off st ∙ ap (λ b. b && is_on w c.keep) (weak_goes_on o.code) in
     record {
       status = st;
@@ -126,18 +126,18 @@ twice false false = refl
 
 -- which doesn't hold
 pub weak_goes : (tables : Tables) (w : ℕ → ℤ) (env : Env) (armed : Bool) (test : Test) (p : Stmt) (c : Context) (a : Copy) (o : Tick)
-    → is_on w (c.next + 1) ≡ holds env test → w (c.next + 3) ≡ cond (is_on w (c.next + 1)) (pos (of_weak_abort (to_nat (w a.status)))) (w a.status)
+    → is_on w (c.next + 1) ≡ holds env test → w (c.next + 3) ≡ cond (is_on w (c.next + 1)) (of_weak_abort (w a.status)) (w a.status)
     → Keeps w c.next c.keep c.hold (c.next + 3) → is_on w c.hold ≡ false → holds env test ≡ false
     → Tells tables w p c.register c.next a o → Tells tables w (Abort true armed test p) c.register c.keep (weak_copy test c a) (as_whole o.code (Abort true true test o.rest) o)
 weak_goes tables w env armed test p c a o ht h keeps off e y =
-    let st : w (c.next + 3) ≡ w a.status = h ∙ ap (λ b. cond b (pos (of_weak_abort (to_nat (w a.status)))) (w a.status)) (ht ∙ e) in
+    let st : w (c.next + 3) ≡ w a.status = h ∙ ap (λ b. cond b (of_weak_abort (w a.status)) (w a.status)) (ht ∙ e) in
     let k = kept w c.next c.keep c.hold (c.next + 3) o.code keeps off (st ∙ y.status) in
     whole_tells tables w p (Abort true armed test p) (λ z. Abort true true test z) c.register c.keep c.next (c.next + 3) a o st y
     (ap (λ b. b && (o.code == 1)) k ∙ twice (o.code == 1) (is_on w c.keep))
     (λ z s. abort_stands tables true armed test p z c.register (registers_set w a.sets) s) (weak_copy test c a).equations
 
 pub weak_active : (tables : Tables) (last : ℕ → ℤ) (env : Env) (x w : ℕ → ℤ) (armed : Bool) (test : Test) (p t : Stmt) (c : Context) (a : Copy)
-    → is_on w (c.next + 1) ≡ holds env test → w (c.next + 3) ≡ cond (is_on w (c.next + 1)) (pos (of_weak_abort (to_nat (w a.status)))) (w a.status)
+    → is_on w (c.next + 1) ≡ holds env test → w (c.next + 3) ≡ cond (is_on w (c.next + 1)) (of_weak_abort (w a.status)) (w a.status)
     → Keeps w c.next c.keep c.hold (c.next + 3) → is_on w c.hold ≡ false
     → Active tables last env x w p t c.register c.next a
     → Active tables last env x w (Abort true armed test p) (Abort true true test t) c.register c.keep (weak_copy test c a)
@@ -161,16 +161,16 @@ quiet_status : (w x : ℕ → ℤ) (a : Copy) (es : List Equation) (s : ℕ) →
 quiet_status w x a es s h q = record { status = h; emits = q.emits; variables = q.variables }
 
 pub weak_quiet : (w x : ℕ → ℤ) (test : Test) (c : Context) (a : Copy)
-    → w (c.next + 3) ≡ cond (is_on w (c.next + 1)) (pos (of_weak_abort (to_nat (w a.status)))) (w a.status) → Quiet w x a → Quiet w x (weak_copy test c a)
+    → w (c.next + 3) ≡ cond (is_on w (c.next + 1)) (of_weak_abort (w a.status)) (w a.status) → Quiet w x a → Quiet w x (weak_copy test c a)
 weak_quiet w x test c a h q =
     quiet_status w x a (weak_copy test c a).equations (c.next + 3)
-    (h ∙ ap (λ z. cond (is_on w (c.next + 1)) (pos (of_weak_abort (to_nat z))) z) q.status ∙ same (is_on w (c.next + 1))) q where
-      same : (b : Bool) → cond b (pos (of_weak_abort 0)) (pos 0) ≡ pos 0
+    (h ∙ ap (λ z. cond (is_on w (c.next + 1)) (of_weak_abort z) z) q.status ∙ same (is_on w (c.next + 1))) q where
+      same : (b : Bool) → cond b (of_weak_abort (pos 0)) (pos 0) ≡ pos 0
       same true = refl
       same false = refl
 
 pub weak_held : (tables : Tables) (f w x : ℕ → ℤ) (armed : Bool) (test : Test) (p : Stmt) (c : Context) (a : Copy)
-    → w (c.next + 3) ≡ cond (is_on w (c.next + 1)) (pos (of_weak_abort (to_nat (w a.status)))) (w a.status)
+    → w (c.next + 3) ≡ cond (is_on w (c.next + 1)) (of_weak_abort (w a.status)) (w a.status)
     → Keeps w c.next c.keep c.hold (c.next + 3) → is_on w c.hold ≡ true
     → Held tables f w x p c.register c.next a → Held tables f w x (Abort true armed test p) c.register c.keep (weak_copy test c a)
 weak_held tables f w x armed test p c a h keeps on u =

@@ -1,8 +1,14 @@
 -- Copies of small statements, as whole lists of equations.
 use Rattle.std.specs.Prelude.{ℕ, pos, List, [], ◌∷◌, None}
-use Rattle.kernel_terms.specs.Statements.{Stmt, Pause, Emit, Seq}
+use Rattle.java_values.specs.declared.kind.Kind.TheVariants.{Int}
+use Rattle.java_values.specs.declared.op.Op1.TheVariants.{Plus}
+use Rattle.java_values.specs.declared.op.Op2.TheVariants.{Less, Equal, Sub}
+use Rattle.kernel_terms.specs.Statements.{Stmt, Pause, Emit, Seq, Trap, Exit}
 use Rattle.surf_graph.specs.definitions.Formulas.{Formula, Const, And, Or, Status, IsStatus, Greater, Equation}
 use Rattle.surf_graph.specs.definitions.Copies.{Context, Emits, Sets}
+use Rattle.surf_graph.specs.definitions.SpelledOut.{gives}
+use Rattle.wire_code.specs.declared.formula.Formula.TheVariants as wire
+use Rattle.wire_code.specs.declared.equation.Equation.{Equation as WireEquation}
 
 -- It ticks where wire 1 is on, is held where wire 2 is, and what it leaves is kept where wire 3 is.
 abbrev pub given : Context
@@ -38,18 +44,48 @@ pause_then_emission = Seq Pause (emission 5)
 -- wire 10 tells that the emission has ended
 abbrev pub emission_then_pause_equations : List Equation
 emission_then_pause_equations =
-    is 8 (Greater 11 13) ∷ is 10 (IsStatus 11 1)
+    is 8 (Greater 11 13) ∷ is 10 (IsStatus 11 0)
     ∷ is 11 (Status 1 0) ∷ is 12 (Const (pos 0))
     ∷ is 13 (Status 10 1) ∷ is 14 (And 10 3) ∷ []
 
 -- nothing is built of the emission, since a pause doesn't end in its starting tick
 abbrev pub pause_then_emission_equations : List Equation
 pause_then_emission_equations =
-    is 8 (Greater 11 0) ∷ is 10 (IsStatus 11 1) ∷ is 11 (Status 1 1) ∷ is 12 (And 1 3) ∷ []
+    is 8 (Greater 11 0) ∷ is 10 (IsStatus 11 0) ∷ is 11 (Status 1 1) ∷ is 12 (And 1 3) ∷ []
 
 -- wire 8 is what both keep
 abbrev pub pause_beside_emission_equations : List Equation
 pause_beside_emission_equations =
-    is 8 (And 3 10) ∷ is 9 (IsStatus 11 2) ∷ is 10 (Or 2 9) ∷ is 11 (Greater 13 15)
+    is 8 (And 3 10) ∷ is 9 (IsStatus 11 1) ∷ is 10 (Or 2 9) ∷ is 11 (Greater 13 15)
     ∷ is 13 (Status 1 1) ∷ is 14 (And 1 8)
     ∷ is 15 (Status 1 0) ∷ is 16 (Const (pos 0)) ∷ []
+
+-- Wire 8 is the status of the pause. Wires from 10 on are further ones.
+abbrev pub pause_operations : List WireEquation
+pause_operations =
+    gives 10 (wire.Const (pos 2)) ∷ gives 11 (wire.Apply1 Plus Int 10)
+    ∷ gives 8 (wire.Choose 1 11 0) ∷ gives 9 (wire.And 1 3) ∷ []
+
+-- wires 8, 11 and 13 are the statuses of the whole and of both parts; wire 10 tells that the first has ended
+abbrev pub emission_then_pause_operations : List WireEquation
+emission_then_pause_operations =
+    gives 15 (wire.Apply2 Less Int Int 13 11) ∷ gives 8 (wire.Choose 15 11 13)
+    ∷ gives 16 (wire.Const (pos 1)) ∷ gives 10 (wire.Apply2 Equal Int Int 11 16)
+    ∷ gives 17 (wire.Const (pos 1)) ∷ gives 18 (wire.Apply1 Plus Int 17)
+    ∷ gives 11 (wire.Choose 1 18 0) ∷ gives 12 (wire.Const (pos 0))
+    ∷ gives 19 (wire.Const (pos 2)) ∷ gives 20 (wire.Apply1 Plus Int 19)
+    ∷ gives 13 (wire.Choose 10 20 0) ∷ gives 14 (wire.And 10 3) ∷ []
+
+abbrev pub trapped_exit : Stmt
+trapped_exit = Trap (Exit 0)
+
+-- Wire 9 is the status of the exit, 3, and wire 8 that of the trap. A status from 4 to 66 becomes one less.
+abbrev pub trapped_exit_operations : List WireEquation
+trapped_exit_operations =
+    gives 10 (wire.Const (pos 3)) ∷ gives 11 (wire.Apply2 Equal Int Int 9 10)
+    ∷ gives 12 (wire.Apply2 Less Int Int 10 9) ∷ gives 13 (wire.Const (pos 67))
+    ∷ gives 14 (wire.Apply2 Less Int Int 9 13) ∷ gives 15 (wire.And 12 14)
+    ∷ gives 16 (wire.Const (pos 1)) ∷ gives 17 (wire.Apply2 Sub Int Int 9 16)
+    ∷ gives 18 (wire.Choose 15 17 9) ∷ gives 8 (wire.Choose 11 16 18)
+    ∷ gives 19 (wire.Const (pos 3)) ∷ gives 20 (wire.Apply1 Plus Int 19)
+    ∷ gives 9 (wire.Choose 1 20 0) ∷ []

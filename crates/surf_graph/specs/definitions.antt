@@ -1,5 +1,6 @@
 pub mod Copies
 pub mod Formulas
+pub mod Operations
 pub mod Shows
 pub mod Sources
 pub mod SpelledOut

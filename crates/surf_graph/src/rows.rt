@@ -4,11 +4,14 @@ ghost use Rattle.std.specs.Prelude.{◌≡◌, pos, [], ◌∷◌};
 ghost use Rattle.kernel_terms.specs.declared.tables.Tables.{Tables};
 ghost use Rattle.kernel_terms.specs.Statements.{Pause, Par};
 ghost use Rattle.surf_graph.specs.definitions.Formulas.{Const, And, Status};
+ghost use Rattle.surf_graph.specs.definitions.Operations.{operations};
 ghost use Rattle.surf_graph.specs.definitions.StartingCopies.{start};
 ghost use Rattle.surf_graph.specs.SmallCopies.{given, is, sets, emits, emission};
 ghost use Rattle.surf_graph.specs.SmallCopies.{emission_then_pause, pause_then_emission};
 ghost use Rattle.surf_graph.specs.SmallCopies.{emission_then_pause_equations, pause_then_emission_equations};
 ghost use Rattle.surf_graph.specs.SmallCopies.{pause_beside_emission_equations};
+ghost use Rattle.surf_graph.specs.SmallCopies.{pause_operations, emission_then_pause_operations};
+ghost use Rattle.surf_graph.specs.SmallCopies.{trapped_exit, trapped_exit_operations};
 
 /// A pause that starts has the code 1, and its register is set where it is kept.
 pub fn starting_pause()
@@ -45,4 +48,13 @@ pub fn starting_parallel()
     ensures { (tables : Tables)
         → (start tables (Par Pause (emission 5)) given).equations ≡
         pause_beside_emission_equations }
+{}
+
+/// The operations of starting copies: statuses are constants, comparisons and choices.
+pub fn starting_operations()
+    ensures pause { (tables : Tables) → operations (start tables Pause given) ≡ pause_operations }
+    ensures sequence { (tables : Tables)
+        → operations (start tables emission_then_pause given) ≡ emission_then_pause_operations }
+    ensures trap { (tables : Tables)
+        → operations (start tables trapped_exit given) ≡ trapped_exit_operations }
 {}

@@ -179,7 +179,7 @@ local_copy tables s last c a =
           record { wire = n; formula = Same folded.some }
           ∷ record { wire = n + 1; formula = Same folded.value }
           ∷ record { wire = n + 2; formula = last }
-          ∷ record { wire = n + 3; formula = IsStatus a.status (status_of paused_code) }
+          ∷ record { wire = n + 3; formula = IsStatus a.status paused_code }
           ∷ record { wire = n + 4; formula = And c.keep (n + 3) }
           ∷ record { wire = n + 5; formula = And c.keep c.hold }
           ∷ (folded.equations ++ a.equations);
@@ -208,7 +208,7 @@ beside tables p live own c a b =
     record {
       equations =
           record { wire = n; formula = And c.keep (n + 2) }
-          ∷ record { wire = n + 1; formula = IsStatus (n + 3) (status_of paused_code) }
+          ∷ record { wire = n + 1; formula = IsStatus (n + 3) paused_code }
           ∷ record { wire = n + 2; formula = Or c.hold (n + 1) }
           ∷ record { wire = n + 3; formula = Greater a.status b.status }
           ∷ (own ++ (a.equations ++ b.equations));
@@ -241,7 +241,7 @@ weak_copy t c a =
           ∷ record { wire = n + 1; formula = Holds t c.wires }
           ∷ record { wire = n + 2; formula = Or c.hold (n + 4) }
           ∷ record { wire = n + 3; formula = OfWeakAbort (n + 1) a.status }
-          ∷ record { wire = n + 4; formula = IsStatus (n + 3) (status_of paused_code) }
+          ∷ record { wire = n + 4; formula = IsStatus (n + 3) paused_code }
           ∷ a.equations;
       status = n + 3;
     }
@@ -320,4 +320,4 @@ live_own k a b = record { wire = k; formula = Or a.live b.live } ∷ []
 
 -- the wire that tells that a copy has ended
 abbrev pub turn_own : ℕ → Copy → List Equation
-turn_own k a = record { wire = k; formula = IsStatus a.status (status_of ended_code) } ∷ []
+turn_own k a = record { wire = k; formula = IsStatus a.status ended_code } ∷ []

@@ -3,15 +3,9 @@ use Rattle.std.specs.Prelude.{◌≡◌, ℕ, ◌<◌, ℤ}
 use Rattle.kernel_terms.specs.declared.tables.Tables.{Tables}
 use Rattle.kernel_terms.specs.Statements.{Stmt}
 use Rattle.kernel_rules.specs.definitions.TickRule.{Tick}
-use Rattle.surf_graph.specs.definitions.Formulas.{Wires, Satisfies}
+use Rattle.surf_graph.specs.definitions.Formulas.{WiresBelow, Satisfies}
 use Rattle.surf_graph.specs.definitions.Copies.{Copy, Context}
 use Rattle.surf_graph.specs.definitions.Tells.{Tells}
-
-pub record WiresBelow (limit : ℕ) (v : Wires) : Type 0 where
-  pub variables : (x : ℕ) → v.variables x < limit
-  pub present : (s : ℕ) → v.present s < limit
-  pub value : (s : ℕ) → v.value s < limit
-  pub last : (c : ℕ) → v.last c < limit
 
 -- the wires that a copy is given
 pub record Outside (c : Context) : Type 0 where
