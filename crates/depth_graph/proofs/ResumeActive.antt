@@ -387,13 +387,13 @@ resume_active tables f w (Send ch e) c src l z h on free alive apart =
     waiting_active tables f w (Send ch e) (Sent ch) (SendWaits ch (f (g + 2))) c h on free alive (is_true (f (g + 1))) refl refl refl
     (λ held set.
     let s = wait_sets f w c held set in
-    record { is_live = s.on; residual = ap₂ (λ i j. cond (is_true i) (Sent ch) (SendWaits ch j)) s.met (s.value ∙ h.1.1.0); apart = tt })
+    record { fits = record { is_live = s.on; apart = tt }; residual = ap₂ (λ i j. cond (is_true i) (Sent ch) (SendWaits ch j)) s.met (s.value ∙ h.1.1.0) })
 resume_active tables f w (Receive ch) c src l z h on free alive apart =
     let g = c.register in
     waiting_active tables f w (Receive ch) (Received ch) (ReceiveWaits ch) c h on free alive (is_true (f (g + 1))) refl refl refl
     (λ held set.
     let s = wait_sets f w c held set in
-    record { is_live = s.on; residual = ap (λ i. cond (is_true i) (Received ch) (ReceiveWaits ch)) s.met; apart = tt })
+    record { fits = record { is_live = s.on; apart = tt }; residual = ap (λ i. cond (is_true i) (Received ch) (ReceiveWaits ch)) s.met })
 resume_active tables f w (SendWaits ch v) c src l z h on free alive apart = cc
 resume_active tables f w (Sent ch) c src l z h on free alive apart = cc
 resume_active tables f w (ReceiveWaits ch) c src l z h on free alive apart = cc

@@ -4,7 +4,7 @@ ghost use Rattle.std.specs.Prelude.{◌≡◌, ℕ, ℤ, pos, true, false, ◌&&
 ghost use Rattle.kernel_terms.specs.declared.tables.Tables.{Tables};
 ghost use Rattle.kernel_terms.specs.MayEnd.{LoopsWait};
 ghost use Rattle.kernel_terms.specs.Statements.{Stmt};
-ghost use Rattle.kernel_rules.specs.definitions.Registers.{live, residual, LivesApart};
+ghost use Rattle.kernel_rules.specs.definitions.Registers.{live, residual, FitRegisters};
 ghost use Rattle.kernel_rules.specs.definitions.TickRule.{Tick, Ticks};
 ghost use Rattle.surf_graph.specs.definitions.Copies.{Context};
 ghost use Rattle.surf_graph.specs.definitions.Formulas.{Satisfies, is_on, told, told_env};
@@ -21,8 +21,7 @@ ghost use Rattle.wire_code.specs.Formulas.{Satisfies as Meets};
 pub fn resuming_copies_tell_ticks()
     ensures active { (tables : Tables) (f w : ℕ → ℤ) (p : Stmt) (c : Context) → IsSource tables p
         → LoopsWait p → w 0 ≡ pos 0 → Satisfies f w (resume tables p c).equations
-        → is_on w c.go ≡ true → is_on w c.hold ≡ false → live tables p c.register f ≡ true
-        → LivesApart tables p c.register f
+        → is_on w c.go ≡ true → is_on w c.hold ≡ false → FitRegisters tables p c.register f
         → Active tables (told w c.wires.last) (told_env w c.wires) (told w c.wires.variables) w p
         (residual tables p c.register f) c.register c.keep (resume tables p c) }
     ensures silent { (tables : Tables) (f w : ℕ → ℤ) (p : Stmt) (c : Context) → w 0 ≡ pos 0
@@ -40,8 +39,7 @@ pub fn resuming_copies_tell_ticks()
 pub fn resuming_ticks_are_told()
     ensures { (tables : Tables) (f w : ℕ → ℤ) (p : Stmt) (c : Context) (o : Tick) → Outside c
         → IsSource tables p → LoopsWait p → w 0 ≡ pos 0 → is_on w c.go ≡ true
-        → is_on w c.hold ≡ false → live tables p c.register f ≡ true
-        → LivesApart tables p c.register f
+        → is_on w c.hold ≡ false → FitRegisters tables p c.register f
         → Ticks tables (told w c.wires.last) (residual tables p c.register f) (told_env w c.wires)
         (told w c.wires.variables) o
         → Shows tables f w p c.register c.keep c.next (resume tables p c) o }
@@ -51,8 +49,7 @@ pub fn resuming_ticks_are_told()
 pub fn resuming_operations_tell_ticks()
     ensures active { (tables : Tables) (f w : ℕ → ℤ) (p : Stmt) (c : Context) → IsSource tables p
         → LoopsWait p → w 0 ≡ pos 0 → Meets f w (operations (resume tables p c))
-        → is_on w c.go ≡ true → is_on w c.hold ≡ false → live tables p c.register f ≡ true
-        → LivesApart tables p c.register f
+        → is_on w c.go ≡ true → is_on w c.hold ≡ false → FitRegisters tables p c.register f
         → Active tables (told w c.wires.last) (told_env w c.wires) (told w c.wires.variables) w p
         (residual tables p c.register f) c.register c.keep (resume tables p c) }
     ensures silent { (tables : Tables) (f w : ℕ → ℤ) (p : Stmt) (c : Context) → w 0 ≡ pos 0
@@ -70,8 +67,7 @@ pub fn resuming_operations_tell_ticks()
 pub fn resuming_ticks_are_told_by_operations()
     ensures { (tables : Tables) (f w : ℕ → ℤ) (p : Stmt) (c : Context) (o : Tick) → Outside c
         → IsSource tables p → LoopsWait p → w 0 ≡ pos 0 → is_on w c.go ≡ true
-        → is_on w c.hold ≡ false → live tables p c.register f ≡ true
-        → LivesApart tables p c.register f
+        → is_on w c.hold ≡ false → FitRegisters tables p c.register f
         → Ticks tables (told w c.wires.last) (residual tables p c.register f) (told_env w c.wires)
         (told w c.wires.variables) o
         → OperationsShow tables f w p c.register c.keep c.next (resume tables p c) o }

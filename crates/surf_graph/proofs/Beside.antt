@@ -94,10 +94,10 @@ pub record Left (tables : Tables) (p : Stmt) (n : ℕ) (r : ℕ → ℤ) (t : St
 left_live : (tables : Tables) (p : Stmt) (n : ℕ) (r : ℕ → ℤ) (t : Stmt) (code : ℕ) → Stands tables p n r t → Left tables p n r t code
 left_live tables p n r t code s =
     record {
-      left = ap (λ b. cond b (residual tables p n r) Nothing) s.is_live ∙ s.residual;
-      over = ap (λ b. b || (ends0 p || ends1 p)) s.is_live;
-      apart = s.apart;
-      is_live = λ e. s.is_live;
+      left = ap (λ b. cond b (residual tables p n r) Nothing) (s.fits).is_live ∙ s.residual;
+      over = ap (λ b. b || (ends0 p || ends1 p)) (s.fits).is_live;
+      apart = (s.fits).apart;
+      is_live = λ e. (s.fits).is_live;
     }
 
 left_over : (tables : Tables) (p : Stmt) (n : ℕ) (r : ℕ → ℤ) (t : Stmt) (code : ℕ) → Dead tables p n r → (code == 1) ≡ false → t ≡ Nothing → ends0 p || ends1 p ≡ true → Left tables p n r t code
@@ -122,12 +122,11 @@ left_branch tables last env x w r p t n keep copy u on ends stands dies =
 pub left_both : (tables : Tables) (p q : Stmt) (n : ℕ) (r : ℕ → ℤ) (s t : Stmt) (i j : ℕ) → ((i == 1) ≡ true) ⊎ ((j == 1) ≡ true) → Left tables p n r s i → Left tables q (n + registers tables p) r t j → Stands tables (Par p q) n r (Par s t)
 left_both tables p q n r s t i j some a b =
     record {
-      is_live = elim some [
+      fits = record { is_live = elim some [
         | inl e ↦ or_left (live tables p n r) (live tables q (n + registers tables p) r) (a.is_live e)
         | inr e ↦ or_right (live tables p n r) (live tables q (n + registers tables p) r) (b.is_live e)
-      ];
+      ]; apart = (λ v. (a.over, b.over), a.apart, b.apart) };
       residual = ap₂ Par a.left b.left;
-      apart = (λ v. (a.over, b.over), a.apart, b.apart);
     }
 
 pub one_of : (i j : ℕ) → max i j ≡ 1 → ((i == 1) ≡ true) ⊎ ((j == 1) ≡ true)

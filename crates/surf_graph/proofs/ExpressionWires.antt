@@ -10,7 +10,7 @@ use Rattle.kernel_terms.specs.TableEntries.{value_kind}
 use Rattle.kernel_terms.specs.Expressions.{Expression, Literal, Variable, SignalValue, ChannelValue, Unary, Binary, Cast, kind_of, Test, IsPresent, Not, Both, Either}
 use Rattle.kernel_rules.specs.definitions.Expressions.{value_of, holds}
 use Rattle.kernel_rules.specs.definitions.Signals.{combined}
-use Rattle.surf_graph.specs.definitions.Formulas.{Wires, Formula, Const, Get, Same, And, AndNot, Or, Choose, Status, IsStatus, Greater, OfTrap, OfWeakAbort, Value, Holds, Equation, Satisfies, formula_value, is_on, told_env, readings}
+use Rattle.surf_graph.specs.definitions.Formulas.{Wires, Formula, Const, Get, Same, And, AndNot, Or, Choose, StatusOf, Status, IsStatus, Greater, OfTrap, OfWeakAbort, Value, Holds, Equation, Satisfies, formula_value, is_on, told_env, readings}
 use Rattle.surf_graph.specs.definitions.Formulas as formula
 use Rattle.surf_graph.specs.definitions.SpelledOut.{gives, value_wires, test_wires, operator_wires, extreme_wires, combined_wires, spelled, spelled_out}
 use Rattle.surf_graph.proofs.SetValues.{truth_of}
@@ -105,6 +105,7 @@ spelled_given f w n (And a b) z h = refl
 spelled_given f w n (AndNot a b) z h = ap (λ x. of_bool (is_on w a && x)) (ap is_true h.0 ∙ truth_of (not (is_on w b)))
 spelled_given f w n (Or a b) z h = refl
 spelled_given f w n (Choose c a b) z h = refl
+spelled_given f w n (StatusOf code) z h = h.0
 spelled_given f w n (Status go code) z h = ap₂ (λ x y. cond (is_on w go) x y) (h.1.0 ∙ h.0) z
 spelled_given f w n (IsStatus a code) z h = ap of_bool (ap (λ x. int_eq (w a) x) h.0 ∙ same_status (w a) code)
 spelled_given f w n (Greater a b) z h = ap (λ x. cond x (w a) (w b)) (ap is_true h.0 ∙ truth_of (int_lt (w b) (w a)))

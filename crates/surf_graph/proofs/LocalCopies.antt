@@ -69,7 +69,7 @@ local_active tables last x w s v v' p t c a es next says begins pure_begins off 
             let inner = second_stands tables w p o.rest m (own_sets n) a.sets (y.sets e) in
             let mine = own_value tables w s c a (signal_at tables s).kind z refl pure_zero (ap (λ i. cond i z (set_value w (record { condition = n + 5; value = n + 2 } ∷ []))) (pauses ∙ e)) in
             subst (λ l. Stands tables (Local s v p) c.register r l) (sym (left_whole o.code (Local s z o.rest) (left_of (o.code == 1) (is_on w c.keep) e)))
-            (record { is_live = inner.is_live; residual = ap₂ (λ i l. Local s i l) mine inner.residual; apart = inner.apart });
+            (record { fits = record { is_live = (inner.fits).is_live; apart = (inner.fits).apart }; residual = ap₂ (λ i l. Local s i l) mine inner.residual });
         unset = λ e. sets_off w tables s c a (pauses ∙ e) holds (y.unset e);
       };
     }

@@ -60,33 +60,29 @@ second_alone tables w p x n s t h k =
 pub If_first : (tables : Tables) (e : Expression) (p q x : Stmt) (n : ℕ) (r : ℕ → ℤ) → Stands tables p n r x → Dead tables q (n + registers tables p) r → Stands tables (If e p q) n r x
 If_first tables e p q x n r s d =
     record {
-      is_live = ap (λ b. b || live tables q (n + registers tables p) r) s.is_live;
-      residual = ap (λ b. cond b (residual tables p n r) (residual tables q (n + registers tables p) r)) s.is_live ∙ s.residual;
-      apart = (second_dead (live tables p n r) _ d.live, s.apart, d.apart);
+      fits = record { is_live = ap (λ b. b || live tables q (n + registers tables p) r) (s.fits).is_live; apart = (second_dead (live tables p n r) _ d.live, (s.fits).apart, d.apart) };
+      residual = ap (λ b. cond b (residual tables p n r) (residual tables q (n + registers tables p) r)) (s.fits).is_live ∙ s.residual;
     }
 
 pub If_second : (tables : Tables) (e : Expression) (p q x : Stmt) (n : ℕ) (r : ℕ → ℤ) → Dead tables p n r → Stands tables q (n + registers tables p) r x → Stands tables (If e p q) n r x
 If_second tables e p q x n r d s =
     record {
-      is_live = ap (λ b. b || live tables q (n + registers tables p) r) d.live ∙ s.is_live;
+      fits = record { is_live = ap (λ b. b || live tables q (n + registers tables p) r) d.live ∙ (s.fits).is_live; apart = (first_dead _ _ d.live, d.apart, (s.fits).apart) };
       residual = ap (λ b. cond b (residual tables p n r) (residual tables q (n + registers tables p) r)) d.live ∙ s.residual;
-      apart = (first_dead _ _ d.live, d.apart, s.apart);
     }
 
 pub Seq_first : (tables : Tables) (p q x : Stmt) (n : ℕ) (r : ℕ → ℤ) → Stands tables p n r x → Dead tables q (n + registers tables p) r → Stands tables (Seq p q) n r (Seq x q)
 Seq_first tables p q x n r s d =
     record {
-      is_live = ap (λ b. b || live tables q (n + registers tables p) r) s.is_live;
-      residual = ap (λ b. cond b (Seq (residual tables p n r) q) (residual tables q (n + registers tables p) r)) s.is_live ∙ ap (λ y. Seq y q) s.residual;
-      apart = (second_dead (live tables p n r) _ d.live, s.apart, d.apart);
+      fits = record { is_live = ap (λ b. b || live tables q (n + registers tables p) r) (s.fits).is_live; apart = (second_dead (live tables p n r) _ d.live, (s.fits).apart, d.apart) };
+      residual = ap (λ b. cond b (Seq (residual tables p n r) q) (residual tables q (n + registers tables p) r)) (s.fits).is_live ∙ ap (λ y. Seq y q) s.residual;
     }
 
 pub Seq_second : (tables : Tables) (p q x : Stmt) (n : ℕ) (r : ℕ → ℤ) → Dead tables p n r → Stands tables q (n + registers tables p) r x → Stands tables (Seq p q) n r x
 Seq_second tables p q x n r d s =
     record {
-      is_live = ap (λ b. b || live tables q (n + registers tables p) r) d.live ∙ s.is_live;
+      fits = record { is_live = ap (λ b. b || live tables q (n + registers tables p) r) d.live ∙ (s.fits).is_live; apart = (first_dead _ _ d.live, d.apart, (s.fits).apart) };
       residual = ap (λ b. cond b (Seq (residual tables p n r) q) (residual tables q (n + registers tables p) r)) d.live ∙ s.residual;
-      apart = (first_dead _ _ d.live, d.apart, s.apart);
     }
 
 -- statuses

@@ -127,7 +127,7 @@ remains_still tables p n f g r h k =
     record { live = h.live ∙ e.live; residual = h.residual ∙ e.residual; apart = λ z. e.apart (h.apart z) }
 
 pub stands_still : (tables : Tables) (p : Stmt) (n : ℕ) (f r : ℕ → ℤ) (t : Stmt) → Remain tables p n f r → Stands tables p n f t → Stands tables p n r t
-stands_still tables p n f r t h s = record { is_live = sym h.live ∙ s.is_live; residual = sym h.residual ∙ s.residual; apart = h.apart s.apart }
+stands_still tables p n f r t h s = record { fits = record { is_live = sym h.live ∙ (s.fits).is_live; apart = h.apart (s.fits).apart }; residual = sym h.residual ∙ s.residual }
 
 -- no part is live
 pub record Dead (tables : Tables) (p : Stmt) (n : ℕ) (r : ℕ → ℤ) : Type 0 where

@@ -74,10 +74,10 @@ pub told_put : (w : ℕ → ℤ) (v : ℕ → ℕ) (y n : ℕ) (u : ℤ) → w n
 told_put w v y n u h = fun_ext (λ k. put_told w (k == y) n (v k) u h)
 
 pub present_stands : (tables : Tables) (e : Expression) (t : Test) (p q s : Stmt) (n : ℕ) (r : ℕ → ℤ) → Stands tables (If e p q) n r s → Stands tables (Present t p q) n r s
-present_stands tables e t p q s n r h = record { is_live = h.is_live; residual = h.residual; apart = h.apart }
+present_stands tables e t p q s n r h = record { fits = record { is_live = (h.fits).is_live; apart = (h.fits).apart }; residual = h.residual }
 
 pub loop_stands : (tables : Tables) (p s : Stmt) (n : ℕ) (r : ℕ → ℤ) → Stands tables p n r s → Stands tables (Loop p) n r (Seq s (Loop p))
-loop_stands tables p s n r h = record { is_live = h.is_live; residual = ap (λ z. Seq z (Loop p)) h.residual; apart = h.apart }
+loop_stands tables p s n r h = record { fits = record { is_live = (h.fits).is_live; apart = (h.fits).apart }; residual = ap (λ z. Seq z (Loop p)) h.residual }
 
 pub active_if : (tables : Tables) (last : ℕ → ℤ) (env : Env) (f x w : ℕ → ℤ) (p t : Stmt) (n keep : ℕ) (b : Bool) (a : Copy) (d : Context)
     → b ≡ true → Satisfies f w (starting_if b a d).equations → (Satisfies f w a.equations → Active tables last env x w p t n keep a) → Active tables last env x w p t n keep (starting_if b a d)
@@ -155,7 +155,7 @@ start_active tables f w Pause c src l z h on free =
         emits = refl;
         variables = refl;
         pure = tt;
-        sets = λ e. record { is_live = set_on w (c.next + 1) (kept ∙ e); residual = refl; apart = tt };
+        sets = λ e. record { fits = record { is_live = set_on w (c.next + 1) (kept ∙ e); apart = tt }; residual = refl };
         unset = λ e. record { each = λ k. (kept ∙ e, tt) };
       };
     }
@@ -348,9 +348,8 @@ start_active tables f w (Send ch e) c src l z h on free =
           let d : registers_set w (send_sets g on value) (g + 2) ≡ w value =
           ap₂ (λ b d. set_value w (cond b (one ∷ []) (cond d [] (val ∷ [])))) (other_number (g + 2) g (omega arith)) (other_number (g + 2) (g + 1) (omega arith)) ∙ ap (λ i. cond i (w value) (pos 0)) h in
           record {
-            is_live = ap is_true a ∙ set_on w on h;
+            fits = record { is_live = ap is_true a ∙ set_on w on h; apart = tt };
             residual = ap₂ (λ i j. cond (is_true i) (Sent ch) (SendWaits ch j)) b d;
-            apart = tt;
           }
 start_active tables f w (Receive ch) c src l z h on free =
     let x = told w c.wires.variables in
@@ -377,9 +376,8 @@ start_active tables f w (Receive ch) c src l z h on free =
       receive_stands h =
           let one : Sets = record { condition = c.next + 1; value = c.next + 1 } in
           record {
-            is_live = ap (λ b. is_true (set_value w (cond b (one ∷ []) []))) (same_number c.register) ∙ set_on w (c.next + 1) h;
+            fits = record { is_live = ap (λ b. is_true (set_value w (cond b (one ∷ []) []))) (same_number c.register) ∙ set_on w (c.next + 1) h; apart = tt };
             residual = ap (λ b. cond (is_true (set_value w (cond b (one ∷ []) []))) (Received ch) (ReceiveWaits ch)) (other_number (c.register + 1) c.register (omega arith));
-            apart = tt;
           }
 start_active tables f w (SendWaits ch v) c src l z h on free = absurd src
 start_active tables f w (Sent ch) c src l z h on free = absurd src

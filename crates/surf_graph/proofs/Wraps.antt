@@ -29,13 +29,13 @@ trap_pauses code = by_tests (code == exit_code 0) (has_exited code) refl refl
     by_tests false false e f = refl
 
 pub trap_stands : (tables : Tables) (p s : Stmt) (n : ℕ) (r : ℕ → ℤ) → Stands tables p n r s → Stands tables (Trap p) n r (Trap s)
-trap_stands tables p s n r h = record { is_live = h.is_live; residual = ap Trap h.residual; apart = h.apart }
+trap_stands tables p s n r h = record { fits = record { is_live = (h.fits).is_live; apart = (h.fits).apart }; residual = ap Trap h.residual }
 
 pub abort_stands : (tables : Tables) (weak armed : Bool) (t : Test) (p s : Stmt) (n : ℕ) (r : ℕ → ℤ) → Stands tables p n r s → Stands tables (Abort weak armed t p) n r (Abort weak true t s)
-abort_stands tables weak armed t p s n r h = record { is_live = h.is_live; residual = ap (λ z. Abort weak true t z) h.residual; apart = h.apart }
+abort_stands tables weak armed t p s n r h = record { fits = record { is_live = (h.fits).is_live; apart = (h.fits).apart }; residual = ap (λ z. Abort weak true t z) h.residual }
 
 pub suspend_stands : (tables : Tables) (armed : Bool) (t : Test) (p s : Stmt) (n : ℕ) (r : ℕ → ℤ) → Stands tables p n r s → Stands tables (Suspend armed t p) n r (Suspend true t s)
-suspend_stands tables armed t p s n r h = record { is_live = h.is_live; residual = ap (λ z. Suspend true t z) h.residual; apart = h.apart }
+suspend_stands tables armed t p s n r h = record { fits = record { is_live = (h.fits).is_live; apart = (h.fits).apart }; residual = ap (λ z. Suspend true t z) h.residual }
 
 abbrev pub trap_active : (tables : Tables) (last : ℕ → ℤ) (env : Env) (x w : ℕ → ℤ) (p t : Stmt) (c : Context) (a : Copy)
     → w c.next ≡ of_trap (w a.status) → Active tables last env x w p t c.register c.keep a → Active tables last env x w (Trap p) (Trap t) c.register c.keep (of_trap_copy c a)
@@ -239,7 +239,7 @@ suspend_stops tables last env f x w armed test p on c a s e go ison alive apart 
         emits = q.emits;
         variables = q.variables;
         pure = tt;
-        sets = λ z. suspend_stands tables armed test p t c.register (registers_set w a.sets) (stands_still tables p c.register f (registers_set w a.sets) t (u.stays z) (record { is_live = alive; residual = refl; apart = apart }));
+        sets = λ z. suspend_stands tables armed test p t c.register (registers_set w a.sets) (stands_still tables p c.register f (registers_set w a.sets) t (u.stays z) (record { fits = record { is_live = alive; apart = apart }; residual = refl }));
         unset = λ z. u.unset z;
       };
     }

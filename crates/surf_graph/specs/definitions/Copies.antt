@@ -8,7 +8,7 @@ use Rattle.kernel_terms.specs.Statements.{Stmt}
 use Rattle.kernel_rules.specs.definitions.Signals.{put_at}
 use Rattle.kernel_rules.specs.definitions.TickRule.{writes, ended_code, paused_code}
 use Rattle.kernel_rules.specs.definitions.Registers.{registers, value_kinds}
-use Rattle.surf_graph.specs.definitions.Formulas.{Wires, Formula, Const, Same, And, AndNot, Or, Choose, Status, IsStatus, Greater, OfTrap, OfWeakAbort, Combine, Value, Holds, Equation, status_of}
+use Rattle.surf_graph.specs.definitions.Formulas.{Wires, Formula, Const, Same, And, AndNot, Or, Choose, StatusOf, Status, IsStatus, Greater, OfTrap, OfWeakAbort, Combine, Value, Holds, Equation}
 
 -- What one copy is given: where it ticks, where a suspend holds it (then it doesn't tick), whether what it
 -- leaves is kept, what it reads, its first register, and the next free wire.
@@ -262,7 +262,7 @@ tested_copy t live code c a =
           ∷ record { wire = n + 3; formula = And (n + 2) live }
           ∷ record { wire = n + 4; formula = Choose (n + 3) (n + 6) a.status }
           ∷ record { wire = n + 5; formula = Or c.hold (n + 3) }
-          ∷ record { wire = n + 6; formula = Const (pos (status_of code)) }
+          ∷ record { wire = n + 6; formula = StatusOf code }
           ∷ a.equations;
       status = n + 4;
     }

@@ -17,7 +17,7 @@ pub record Wires : Type 0 where
   pub value : ℕ → ℕ
   pub last : ℕ → ℕ
 
--- What gives a wire its value. `Same`, `AndNot` and those from `Status` on stand for several operations.
+-- What gives a wire its value. `Same`, `AndNot` and those from `StatusOf` on stand for several operations.
 -- `IsStatus` tells whether a status is that of this code.
 pub data Formula : Type 0 where
   Const : (n : ℤ) → Formula
@@ -27,6 +27,7 @@ pub data Formula : Type 0 where
   AndNot : (a b : ℕ) → Formula
   Or : (a b : ℕ) → Formula
   Choose : (c a b : ℕ) → Formula
+  StatusOf : (code : ℕ) → Formula
   Status : (go code : ℕ) → Formula
   IsStatus : (a code : ℕ) → Formula
   Greater : (a b : ℕ) → Formula
@@ -81,6 +82,7 @@ formula_value f w (And a b) = of_bool (is_on w a && is_on w b)
 formula_value f w (AndNot a b) = of_bool (is_on w a && not (is_on w b))
 formula_value f w (Or a b) = of_bool (is_on w a || is_on w b)
 formula_value f w (Choose c a b) = cond (is_on w c) (w a) (w b)
+formula_value f w (StatusOf code) = pos (status_of code)
 formula_value f w (Status go code) = cond (is_on w go) (pos (status_of code)) (pos 0)
 formula_value f w (IsStatus a code) = of_bool (to_nat (w a) == status_of code)
 formula_value f w (Greater a b) = int_max (w a) (w b)
@@ -112,6 +114,7 @@ Reads limit (And a b) = (a < limit) × (b < limit)
 Reads limit (AndNot a b) = (a < limit) × (b < limit)
 Reads limit (Or a b) = (a < limit) × (b < limit)
 Reads limit (Choose c a b) = (c < limit) × (a < limit) × (b < limit)
+Reads limit (StatusOf code) = Unit {0}
 Reads limit (Status go code) = go < limit
 Reads limit (IsStatus a code) = a < limit
 Reads limit (Greater a b) = (a < limit) × (b < limit)

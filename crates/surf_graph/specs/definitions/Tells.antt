@@ -5,7 +5,7 @@ use Rattle.kernel_terms.specs.TableEntries.{signal_at}
 use Rattle.kernel_terms.specs.Statements.{Stmt}
 use Rattle.kernel_rules.specs.definitions.Signals.{Env, Emission}
 use Rattle.kernel_rules.specs.definitions.TickRule.{Tick, Ticks, has_paused}
-use Rattle.kernel_rules.specs.definitions.Registers.{live, residual, LivesApart}
+use Rattle.kernel_rules.specs.definitions.Registers.{live, residual, LivesApart, FitRegisters}
 use Rattle.surf_graph.specs.definitions.Formulas.{status_of, is_on, told}
 use Rattle.surf_graph.specs.definitions.Copies.{Copy, Emits, Sets}
 
@@ -35,11 +35,10 @@ PureZero tables [] = Unit {0}
 PureZero tables (e ∷ es) =
     ((signal_at tables e.signal).kind ≡ None → e.value ≡ pos 0) × PureZero tables es
 
--- the registers of p from n on are those of a live statement and stand for t
+-- the registers of p from n on fit it and stand for t
 pub record Stands (tables : Tables) (p : Stmt) (n : ℕ) (r : ℕ → ℤ) (t : Stmt) : Type 0 where
-  pub is_live : live tables p n r ≡ true
+  pub fits : FitRegisters tables p n r
   pub residual : residual tables p n r ≡ t
-  pub apart : LivesApart tables p n r
 
 -- the registers r stand for the same as the registers f
 pub record Remain (tables : Tables) (p : Stmt) (n : ℕ) (f r : ℕ → ℤ) : Type 0 where
