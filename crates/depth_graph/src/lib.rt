@@ -4,6 +4,8 @@
 mod laws;
 mod rows;
 
-pub use laws::{resuming_copies_tell_ticks, resuming_ticks_are_told};
-pub use laws::{resuming_operations_tell_ticks, resuming_ticks_are_told_by_operations};
+pub use laws::{
+    resuming_copies_tell_ticks, resuming_operations_tell_ticks, resuming_ticks_are_told,
+    resuming_ticks_are_told_by_operations,
+};
 pub use rows::{resuming_emission, resuming_loop, resuming_pause, resuming_sequence};

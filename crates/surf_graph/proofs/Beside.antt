@@ -122,10 +122,13 @@ left_branch tables last env x w r p t n keep copy u on ends stands dies =
 pub left_both : (tables : Tables) (p q : Stmt) (n : ℕ) (r : ℕ → ℤ) (s t : Stmt) (i j : ℕ) → ((i == 1) ≡ true) ⊎ ((j == 1) ≡ true) → Left tables p n r s i → Left tables q (n + registers tables p) r t j → Stands tables (Par p q) n r (Par s t)
 left_both tables p q n r s t i j some a b =
     record {
-      fits = record { is_live = elim some [
-        | inl e ↦ or_left (live tables p n r) (live tables q (n + registers tables p) r) (a.is_live e)
-        | inr e ↦ or_right (live tables p n r) (live tables q (n + registers tables p) r) (b.is_live e)
-      ]; apart = (λ v. (a.over, b.over), a.apart, b.apart) };
+      fits = record {
+        is_live = elim some [
+          | inl e ↦ or_left (live tables p n r) (live tables q (n + registers tables p) r) (a.is_live e)
+          | inr e ↦ or_right (live tables p n r) (live tables q (n + registers tables p) r) (b.is_live e)
+        ];
+        apart = (λ v. (a.over, b.over), a.apart, b.apart);
+      };
       residual = ap₂ Par a.left b.left;
     }
 

@@ -1,5 +1,5 @@
 -- Equations of single operations say what the formulas say that they stand for.
-use Rattle.std.proofs.Common.{◌≡◌, ◌+◌, ◌==◌, ℕ, suc, ℤ, pos, Bool, true, false, ◌&&◌, ◌||◌, not, cond, int_le, int_lt, List, [], ◌∷◌, ◌++◌, refl, ap, ap₂, ◌∙◌}
+use Rattle.std.proofs.Common.{◌≡◌, ◌+◌, ℕ, ℤ, pos, Bool, true, false, ◌&&◌, ◌||◌, not, cond, int_le, int_lt, List, [], ◌∷◌, ◌++◌, refl, ap, ap₂, ◌∙◌}
 use Rattle.java_values.specs.Arithmetic.{is_true, of_bool, applied1, applied2, cast_to}
 use Rattle.java_values.specs.declared.kind.Kind.{Kind}
 use Rattle.java_values.specs.declared.op.Op2.{Op2}

@@ -17,7 +17,7 @@ use Rattle.surf_graph.specs.definitions.Shows.{Outside, Shows}
 use Rattle.kernel_terms.specs.declared.tables.Tables.{Tables}
 use Rattle.kernel_terms.specs.Statements.{Stmt}
 use Rattle.kernel_rules.specs.definitions.TickRule.{Tick}
-use Rattle.surf_graph.specs.definitions.SpelledOut.{Computing, Spelled, gives, value_wires, test_wires, operator_wires, extreme_wires, combined_wires, spelled, spelled_out}
+use Rattle.surf_graph.specs.definitions.SpelledOut.{Computing, gives, value_wires, test_wires, operator_wires, extreme_wires, combined_wires, spelled, spelled_out}
 use Rattle.surf_graph.proofs.ExpressionWires.{meets_both, spelled_given}
 use Rattle.surf_graph.proofs.Frames.{Agreeing, Inside, tells_still, agree_less, agree_twice, wires_more, own, own_agrees, own_first, satisfies_still, value_agrees, reads_more}
 use Rattle.wire_code.specs.Formulas.{Satisfies as Meets, formula_value as given_by, ReadsBelow, IsOrdered}

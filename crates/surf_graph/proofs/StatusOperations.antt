@@ -1,12 +1,12 @@
 -- Comparisons, choices and a difference of statuses.
-use Rattle.std.proofs.Common.{rules, ◌≡◌, ◌+◌, ◌-◌, ◌<◌, ◌≤◌, ◌==◌, nat_lt, nat_le, ℕ, zero, suc, ℤ, pos, negsuc, ◌-ℤ◌, int_lt, Bool, true, false, ◌&&◌, cond, refl, sym, subst, arith, ap, ap₂, ◌∙◌}
+use Rattle.std.proofs.Common.{rules, ◌≡◌, ◌+◌, ◌-◌, ◌<◌, ◌≤◌, ◌==◌, nat_lt, ℕ, zero, suc, ℤ, pos, negsuc, ◌-ℤ◌, int_lt, Bool, true, false, ◌&&◌, cond, refl, sym, arith, ap, ap₂, ◌∙◌}
 use Rattle.std.specs.Ordering.{int_eq}
 use Rattle.std.proofs.lemmas.Int.{ints}
 use Rattle.std.proofs.lemmas.Bool.Decides.{nat_tests, Decides-int_eq}
 use Rattle.java_values.specs.declared.kind.Kind.TheVariants.{Int}
 use Rattle.java_values.specs.Arithmetic.{is_true, wrapped}
 use Rattle.java_values.proofs.InRangeLemmas.{wrapped_kept}
-use Rattle.kernel_rules.specs.definitions.TickRule.{code_of_trap, code_of_weak_abort, has_exited}
+use Rattle.kernel_rules.specs.definitions.TickRule.{has_exited}
 use Rattle.surf_graph.specs.definitions.Formulas.{to_nat, is_on, of_trap, of_weak_abort}
 use Rattle.surf_graph.specs.definitions.SpelledOut.{trap_wires, weak_abort_wires}
 use Rattle.surf_graph.proofs.Parts.{by_cases}
@@ -49,6 +49,7 @@ further_out : (code : ℕ) → (code == 2) ≡ false → has_exited code ≡ nat
 further_out code h = by_cases (has_exited code) (λ e. e ∙ sym (out e)) (λ e. e ∙ sym (in_it e)) where
   out : has_exited code ≡ true → nat_lt 3 (suc code) && nat_lt (suc code) 67 ≡ true
   out e = grind (arith, nat_tests)
+
   in_it : has_exited code ≡ false → nat_lt 3 (suc code) && nat_lt (suc code) 67 ≡ false
   in_it e = grind (arith, nat_tests)
 

@@ -1,10 +1,11 @@
 -- Copies of small statements, as whole lists of equations.
-use Rattle.std.specs.Prelude.{ℕ, pos, List, [], ◌∷◌, None}
+use Rattle.std.specs.Prelude.{ℕ, pos, Bool, true, List, [], ◌∷◌, None}
 use Rattle.java_values.specs.declared.kind.Kind.TheVariants.{Int}
 use Rattle.java_values.specs.declared.op.Op1.TheVariants.{Plus}
 use Rattle.java_values.specs.declared.op.Op2.TheVariants.{Less, Equal, Sub}
-use Rattle.kernel_terms.specs.Statements.{Stmt, Pause, Emit, Seq, Trap, Exit}
+use Rattle.kernel_terms.specs.Statements.{Stmt, Pause, Emit, Seq, Trap, Exit, Abort}
 use Rattle.surf_graph.specs.definitions.Formulas.{Formula, Const, And, Or, Status, IsStatus, Greater, Equation}
+use Rattle.kernel_terms.specs.Expressions.{IsPresent}
 use Rattle.surf_graph.specs.definitions.Copies.{Context, Emits, Sets}
 use Rattle.surf_graph.specs.definitions.SpelledOut.{gives}
 use Rattle.wire_code.specs.declared.formula.Formula.TheVariants as wire
@@ -89,3 +90,29 @@ trapped_exit_operations =
     ∷ gives 18 (wire.Choose 15 17 9) ∷ gives 8 (wire.Choose 11 16 18)
     ∷ gives 19 (wire.Const (pos 3)) ∷ gives 20 (wire.Apply1 Plus Int 19)
     ∷ gives 9 (wire.Choose 1 20 0) ∷ []
+
+-- a pause, aborted at once where a signal is present
+abbrev pub aborted_pause : Bool → Stmt
+aborted_pause weak = Abort weak true (IsPresent 0) Pause
+
+-- Wire 9 is the test, wire 13 the status of the pause, wire 11 that of the abort, and wire 8 what the pause
+-- keeps.
+abbrev pub weak_abort_operations : List WireEquation
+weak_abort_operations =
+    gives 8 (wire.And 3 10) ∷ gives 9 (wire.And 5 5) ∷ gives 10 (wire.Or 2 12)
+    ∷ gives 15 (wire.Const (pos 2)) ∷ gives 16 (wire.Apply2 Equal Int Int 13 15)
+    ∷ gives 17 (wire.And 9 16) ∷ gives 18 (wire.Const (pos 1))
+    ∷ gives 19 (wire.Apply1 Plus Int 18) ∷ gives 11 (wire.Choose 17 19 13)
+    ∷ gives 20 (wire.Const (pos 2)) ∷ gives 12 (wire.Apply2 Equal Int Int 11 20)
+    ∷ gives 21 (wire.Const (pos 2)) ∷ gives 22 (wire.Apply1 Plus Int 21)
+    ∷ gives 13 (wire.Choose 1 22 0) ∷ gives 14 (wire.And 1 8) ∷ []
+
+-- Wire 8 is the test, wire 9 where the pause starts, wire 15 its status, and wire 12 that of the abort.
+abbrev pub strong_abort_operations : List WireEquation
+strong_abort_operations =
+    gives 8 (wire.And 5 5) ∷ gives 17 (wire.Not 8) ∷ gives 9 (wire.And 1 17)
+    ∷ gives 10 (wire.And 1 8) ∷ gives 11 (wire.And 10 1) ∷ gives 12 (wire.Choose 11 14 15)
+    ∷ gives 13 (wire.Or 2 11) ∷ gives 18 (wire.Const (pos 1))
+    ∷ gives 14 (wire.Apply1 Plus Int 18) ∷ gives 19 (wire.Const (pos 2))
+    ∷ gives 20 (wire.Apply1 Plus Int 19) ∷ gives 15 (wire.Choose 9 20 0)
+    ∷ gives 16 (wire.And 9 3) ∷ []

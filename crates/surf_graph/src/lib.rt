@@ -6,8 +6,10 @@ mod laws;
 mod rows;
 mod spelling;
 
-pub use laws::{starting_copies_tell_ticks, starting_ticks_are_told};
-pub use laws::{starting_operations_tell_ticks, starting_ticks_are_told_by_operations};
+pub use laws::{
+    starting_copies_tell_ticks, starting_operations_tell_ticks, starting_ticks_are_told,
+    starting_ticks_are_told_by_operations,
+};
 pub use rows::{
     starting_emission, starting_operations, starting_parallel, starting_pause, starting_sequence,
 };

@@ -1,6 +1,6 @@
 //! Starting copies of small statements, by computation.
 
-ghost use Rattle.std.specs.Prelude.{◌≡◌, pos, [], ◌∷◌};
+ghost use Rattle.std.specs.Prelude.{◌≡◌, pos, true, false, [], ◌∷◌};
 ghost use Rattle.kernel_terms.specs.declared.tables.Tables.{Tables};
 ghost use Rattle.kernel_terms.specs.Statements.{Pause, Par};
 ghost use Rattle.surf_graph.specs.definitions.Formulas.{Const, And, Status};
@@ -11,7 +11,8 @@ ghost use Rattle.surf_graph.specs.SmallCopies.{emission_then_pause, pause_then_e
 ghost use Rattle.surf_graph.specs.SmallCopies.{emission_then_pause_equations, pause_then_emission_equations};
 ghost use Rattle.surf_graph.specs.SmallCopies.{pause_beside_emission_equations};
 ghost use Rattle.surf_graph.specs.SmallCopies.{pause_operations, emission_then_pause_operations};
-ghost use Rattle.surf_graph.specs.SmallCopies.{trapped_exit, trapped_exit_operations};
+ghost use Rattle.surf_graph.specs.SmallCopies.{trapped_exit, trapped_exit_operations, aborted_pause};
+ghost use Rattle.surf_graph.specs.SmallCopies.{weak_abort_operations, strong_abort_operations};
 
 /// A pause that starts has the code 1, and its register is set where it is kept.
 pub fn starting_pause()
@@ -57,4 +58,8 @@ pub fn starting_operations()
         → operations (start tables emission_then_pause given) ≡ emission_then_pause_operations }
     ensures trap { (tables : Tables)
         → operations (start tables trapped_exit given) ≡ trapped_exit_operations }
+    ensures weak_abort { (tables : Tables)
+        → operations (start tables (aborted_pause true) given) ≡ weak_abort_operations }
+    ensures strong_abort { (tables : Tables)
+        → operations (start tables (aborted_pause false) given) ≡ strong_abort_operations }
 {}

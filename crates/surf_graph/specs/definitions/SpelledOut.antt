@@ -1,6 +1,6 @@
 -- Equations spelled out: each whole expression, each whole test and each formula that stands for several operations
 -- becomes equations of single operations.
-use Rattle.std.specs.Prelude.{ℕ, ◌+◌, ◌<◌, ℤ, pos, List, [], ◌∷◌, ◌++◌, Option, Some, None}
+use Rattle.std.specs.Prelude.{ℕ, ◌+◌, pos, List, [], ◌∷◌, ◌++◌, Option, Some, None}
 use Rattle.java_values.specs.declared.kind.Kind.{Kind}
 use Rattle.java_values.specs.declared.kind.Kind.TheVariants.{Int}
 use Rattle.java_values.specs.declared.op.Op1.TheVariants as op1
