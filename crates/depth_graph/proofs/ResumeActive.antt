@@ -14,7 +14,7 @@ use Rattle.kernel_rules.specs.definitions.Registers.{registers, live, residual, 
 use Rattle.surf_graph.proofs.Booleans.{or_right}
 use Rattle.std.specs.Int.{int_max}
 use Rattle.surf_graph.specs.definitions.Formulas.{Satisfies, formula_value, is_on, told, told_env}
-use Rattle.surf_graph.specs.definitions.Copies.{Copy, Context, Sets, below, from, joined, behind, starting_if, other_context, joins, both_write, start_context, part_context, turn_own, live_own, branch_context, second_branch, weak_context, tested_context, local_context, own_registers, fold_emits}
+use Rattle.surf_graph.specs.definitions.Copies.{fold_info, Copy, Context, Sets, below, from, joined, behind, starting_if, other_context, joins, both_write, start_context, part_context, turn_own, live_own, branch_context, second_branch, weak_context, tested_context, local_context, own_registers, fold_emits}
 use Rattle.surf_graph.specs.definitions.StartingCopies.{start}
 use Rattle.depth_graph.specs.definitions.ResumingCopies.{writes1, writes_behind, resume, held_context, last_formula, waiting_copy}
 use Rattle.surf_graph.specs.definitions.Tells.{Off, Stands, registers_set, set_value}
@@ -369,7 +369,7 @@ resume_active tables f w (Suspend armed t p) c src l z h on free alive apart =
     (λ i k. suspend_stands tables armed t p i c.register (registers_set w a.sets) k))
 resume_active tables f w (Local s v p) c src l z h on free alive apart =
     let a = resume tables p (local_context tables s c) in
-    let fold = fold_emits (signal_at tables s) s a.next 0 (c.next + 2) a.emits in
+    let fold = fold_emits (fold_info tables s) s a.next 0 (c.next + 2) a.emits in
     let r = h.1.1.1.1.1.1 in
     let says = local_equations tables f w s (last_formula (signal_at tables s).kind c.register) c a z h (satisfies_front f w fold.equations a.equations r) in
     local_active tables (told w c.wires.last) (told w c.wires.variables) w s v (last_value (signal_at tables s).kind c.register f) p (residual tables p (c.register + own_registers tables s) f) c a _ _ says

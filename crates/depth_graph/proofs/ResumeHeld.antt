@@ -10,7 +10,7 @@ use Rattle.kernel_terms.specs.Statements.{Stmt, Nothing, Pause, Emit, Assign, If
 use Rattle.kernel_terms.specs.MayEnd.{ends1}
 use Rattle.kernel_rules.specs.definitions.Registers.{registers, last_value}
 use Rattle.surf_graph.specs.definitions.Formulas.{Satisfies, formula_value, is_on, of_trap, told, told_env}
-use Rattle.surf_graph.specs.definitions.Copies.{Context, below, from, joined, behind, starting_if, other_context, joins, both_write, start_context, part_context, turn_own, live_own, branch_context, second_branch, weak_context, tested_context, local_context, fold_emits}
+use Rattle.surf_graph.specs.definitions.Copies.{fold_info, Context, below, from, joined, behind, starting_if, other_context, joins, both_write, start_context, part_context, turn_own, live_own, branch_context, second_branch, weak_context, tested_context, local_context, fold_emits}
 use Rattle.surf_graph.specs.definitions.StartingCopies.{start}
 use Rattle.depth_graph.specs.definitions.ResumingCopies.{writes1, writes_behind, resume, held_context, last_formula}
 use Rattle.surf_graph.specs.definitions.Tells.{Held, registers_set}
@@ -167,7 +167,7 @@ resume_held tables f w (Suspend armed t p) c z h off on =
     }
 resume_held tables f w (Local s v p) c z h off on =
     let a = resume tables p (local_context tables s c) in
-    let fold = fold_emits (signal_at tables s) s a.next 0 (c.next + 2) a.emits in
+    let fold = fold_emits (fold_info tables s) s a.next 0 (c.next + 2) a.emits in
     let r = h.1.1.1.1.1.1 in
     let says = local_equations tables f w s (last_formula (signal_at tables s).kind c.register) c a z h (satisfies_front f w fold.equations a.equations r) in
     local_held tables f (told w c.wires.variables) w s v p c a _ _ says (last_is (signal_at tables s).kind c.register ∙ sym h.1.1.0) on

@@ -9,7 +9,7 @@ use Rattle.kernel_terms.specs.MayEnd.{ends1}
 use Rattle.kernel_rules.specs.definitions.Registers.{registers, live}
 use Rattle.java_values.specs.Arithmetic.{of_bool}
 use Rattle.surf_graph.specs.definitions.Formulas.{Satisfies, is_on, of_trap, told, told_env}
-use Rattle.surf_graph.specs.definitions.Copies.{Copy, Context, Sets, below, from, joined, none, behind, nothing_built, starting_if, other_context, joins, both_write, start_context, part_context, turn_own, live_own, branch_context, second_branch, weak_context, tested_context, local_context, fold_emits}
+use Rattle.surf_graph.specs.definitions.Copies.{fold_info, Copy, Context, Sets, below, from, joined, none, behind, nothing_built, starting_if, other_context, joins, both_write, start_context, part_context, turn_own, live_own, branch_context, second_branch, weak_context, tested_context, local_context, fold_emits}
 use Rattle.surf_graph.specs.definitions.StartingCopies.{start}
 use Rattle.depth_graph.specs.definitions.ResumingCopies.{writes1, writes_behind, resume, held_context, last_formula, waiting_copy}
 use Rattle.surf_graph.specs.definitions.Tells.{Off, AllOff, Remain, Quiet, Silent, Held, registers_set, set_value}
@@ -86,7 +86,7 @@ live_wire tables f w (Abort false armed t p) c z h = live_wire tables f w p (tes
 live_wire tables f w (Suspend armed t p) c z h = live_wire tables f w p (held_context c) z h.1.1.1.1.1.1.1
 live_wire tables f w (Local s v p) c z h =
     let a = resume tables p (local_context tables s c) in
-    let fold = fold_emits (signal_at tables s) s a.next 0 (c.next + 2) a.emits in
+    let fold = fold_emits (fold_info tables s) s a.next 0 (c.next + 2) a.emits in
     live_wire tables f w p (local_context tables s c) z (satisfies_back f w fold.equations a.equations h.1.1.1.1.1.1)
 live_wire tables f w (Send ch e) c z h = ap is_true h.0
 live_wire tables f w (Receive ch) c z h = ap is_true h.0
@@ -257,7 +257,7 @@ resume_silent tables f w (Suspend armed t p) c z h off free =
     record { quiet = tested_quiet w (told w c.wires.variables) (told_env w c.wires) t a.live 1 c a s idle u.quiet; sets = u.sets }
 resume_silent tables f w (Local s v p) c z h off free =
     let a = resume tables p (local_context tables s c) in
-    let fold = fold_emits (signal_at tables s) s a.next 0 (c.next + 2) a.emits in
+    let fold = fold_emits (fold_info tables s) s a.next 0 (c.next + 2) a.emits in
     let r = h.1.1.1.1.1.1 in
     let says = local_equations tables f w s (last_formula (signal_at tables s).kind c.register) c a z h (satisfies_front f w fold.equations a.equations r) in
     local_silent tables (told w c.wires.variables) w s c a _ _ says free (resume_silent tables f w p (local_context tables s c) z (satisfies_back f w fold.equations a.equations r) off free)

@@ -11,7 +11,7 @@ use Rattle.kernel_rules.specs.definitions.Expressions.{holds}
 use Rattle.kernel_rules.specs.definitions.Registers.{registers}
 use Rattle.java_values.specs.Arithmetic.{of_bool}
 use Rattle.surf_graph.specs.definitions.Formulas.{Holds, Satisfies, formula_value, to_nat, is_on, of_trap, of_weak_abort, told, told_env}
-use Rattle.surf_graph.specs.definitions.Copies.{Context, below, from, nothing_built, starting_if, other_context, joins, both_write, start_context, part_context, branch_context, second_branch, weak_context, tested_copy, local_context, fold_emits}
+use Rattle.surf_graph.specs.definitions.Copies.{fold_info, Context, below, from, nothing_built, starting_if, other_context, joins, both_write, start_context, part_context, branch_context, second_branch, weak_context, tested_copy, local_context, fold_emits}
 use Rattle.surf_graph.specs.definitions.StartingCopies.{start}
 use Rattle.depth_graph.specs.definitions.ResumingCopies.{writes1, writes_behind}
 use Rattle.surf_graph.specs.definitions.Tells.{Quiet}
@@ -487,8 +487,8 @@ resume_rests tables f w (Local s last p) c o z si =
     let g0 = own_agrees n vs w in
     let x = resume_rests tables f w0 p d0 out (zero_at n w w0 g0 o.some z) (idle_at n w w0 c d0 x1 g0 o.go o.hold refl refl si) in
     let u = x.values in
-    let fold = fold_emits (signal_at tables s) s a.next 0 (n + 2) a.emits in
-    let y = fold_solution f u (signal_at tables s) s a.next 0 (n + 2) a.emits i.emits (omega (arith, grows)) (omega (arith, grows)) in
+    let fold = fold_emits (fold_info tables s) s a.next 0 (n + 2) a.emits in
+    let y = fold_solution f u (fold_info tables s) s a.next 0 (n + 2) a.emits i.emits (omega (arith, grows)) (omega (arith, grows)) in
     let v = y.values in
     let one = one_solved f w n 6 vs a v (omega arith) (agree_twice (n + 6) a.next w0 u v grows x.same y.same) in
     let g = one.same in
@@ -496,7 +496,7 @@ resume_rests tables f w (Local s last p) c o z si =
     let ha = satisfies_still a.next f u v a.equations y.same i.equations x.solves in
     let sa = quiet_of tables f v p d0 zv ha (idle_at n w v c d0 x1 g o.go o.hold refl refl si) in
     let zu = zero_at n w u (agree_twice n (n + 6) w w0 u (omega arith) g0 x.same) o.some z in
-    let says = fold_says f v (signal_at tables s) s a.next 0 (n + 2) a.emits y.solves in
+    let says = fold_says f v (fold_info tables s) s a.next 0 (n + 2) a.emits y.solves in
     let off_zero : is_on v 0 ≡ false = ap is_true zv in
     let some_off : is_on v fold.some ≡ false = says.some ∙ ap₂ (λ b l. b || is_emitted l s) off_zero sa.emits in
     let three_off : is_on v (n + 3) ≡ false = ap is_true (one.own 3 (omega arith)) in
@@ -506,7 +506,7 @@ resume_rests tables f w (Local s last p) c o z si =
       solves = (
         one.first ∙ sym (y.is_bool (zu ∙ sym (ap of_bool (ap is_true zu))) ∙ ap of_bool some_off),
         (
-          one.own 1 (omega arith) ∙ sym (says.value ∙ ap₂ (λ b l. folded_from (signal_at tables s) b (v (n + 2)) (values_of s l)) off_zero sa.emits ∙ one.own 2 (omega arith)),
+          one.own 1 (omega arith) ∙ sym (says.value ∙ ap₂ (λ b l. folded_from (fold_info tables s) b (v (n + 2)) (values_of s l)) off_zero sa.emits ∙ one.own 2 (omega arith)),
           (
             one.own 2 (omega arith) ∙ last_value_is f w v kind c.register,
             (

@@ -9,14 +9,14 @@ use Rattle.kernel_rules.specs.definitions.TickRule.{Ticks, left_at}
 use Rattle.kernel_rules.specs.definitions.Registers.{value_kinds, last_value}
 use Rattle.surf_graph.proofs.Booleans.{left_of}
 use Rattle.surf_graph.specs.definitions.Formulas.{Equation, to_nat, is_on, told_env}
-use Rattle.surf_graph.specs.definitions.Copies.{Copy, Context, Sets, below, from, joined, emits_without, own_registers, local_context}
+use Rattle.surf_graph.specs.definitions.Copies.{fold_info, Copy, Context, Sets, below, from, joined, emits_without, own_registers, local_context}
 use Rattle.surf_graph.specs.definitions.Tells.{Off, registers_set, set_value, Stands, Active, Quiet, Silent, Held}
 use Rattle.surf_graph.proofs.SetValues.{off_joined, off_below, off_from, set_first, set_second}
 use Rattle.surf_graph.proofs.RegisterRanges.{remain_Local, remains_still}
 use Rattle.surf_graph.proofs.Leavings.{left_whole}
 use Rattle.surf_graph.proofs.Parts.{second_stands}
 use Rattle.surf_graph.proofs.Beside.{next_one, and_swap, and_off}
-use Rattle.surf_graph.proofs.Locals.{LocalSays, told_local, emitted_without, pure_without, fold_zero}
+use Rattle.surf_graph.proofs.Locals.{same_fold, LocalSays, told_local, emitted_without, pure_without, fold_zero}
 
 -- the sets of its own register
 abbrev pub own_sets : ℕ → ℕ → List Sets
@@ -55,7 +55,7 @@ local_active tables last x w s v v' p t c a es next says begins pure_begins off 
     says.pauses ∙ ap (λ i. is_on w c.keep && (to_nat i == 2)) y.status ∙ ap (λ i. is_on w c.keep && i) (next_one o.code) ∙ and_swap (is_on w c.keep) (o.code == 1) in
     let holds : is_on w (n + 5) ≡ false = says.holds ∙ and_off (is_on w c.keep) (is_on w c.hold) off in
     let present : b ≡ is_emitted o.emits s = says.present ∙ ap (λ l. is_emitted l s) y.emits in
-    let value : z ≡ folded (signal_at tables s) v' (values_of s o.emits) = says.value ∙ ap₂ (λ i l. folded (signal_at tables s) i (values_of s l)) begins y.emits in
+    let value : z ≡ folded (signal_at tables s) v' (values_of s o.emits) = says.value ∙ ap₂ (λ i l. folded (fold_info tables s) i (values_of s l)) begins y.emits ∙ same_fold tables s v' o.emits pure_begins y.pure in
     let pure_zero : (signal_at tables s).kind ≡ None → z ≡ pos 0 = λ e. value ∙ ap (λ i. folded (signal_at tables s) i (values_of s o.emits)) (pure_begins e) ∙ fold_zero tables s o.emits e y.pure in
     record {
       tick = record { code = o.code; rest = left_at o.code (Local s z o.rest); emits = without s o.emits; variables = o.variables };

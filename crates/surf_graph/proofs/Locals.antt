@@ -1,5 +1,5 @@
 -- Local signals: their emissions fold to the wires of presence and value.
-use Rattle.std.proofs.Common.{◌≡◌, ℕ, ◌+◌, ◌==◌, ℤ, pos, Bool, true, false, ◌&&◌, ◌||◌, cond, List, [], ◌∷◌, refl, sym, ap, ap₂, ◌∙◌, arith, Option, None}
+use Rattle.std.proofs.Common.{◌≡◌, ℕ, ◌+◌, ◌==◌, ℤ, pos, Bool, true, false, ◌&&◌, ◌||◌, cond, List, [], ◌∷◌, refl, sym, ap, ap₂, ◌∙◌, arith, Option, None, Some}
 use Rattle.std.specs.Prelude.{unwrap_or}
 use Rattle.std.specs.Int.{int_wrap}
 use Rattle.std.proofs.lemmas.Bool.Decides.{nat_tests}
@@ -14,7 +14,7 @@ use Rattle.kernel_terms.specs.declared.tables.Combine.TheVariants.{Add, Max, Min
 use Rattle.kernel_terms.specs.TableEntries.{signal_at, value_kind}
 use Rattle.kernel_rules.specs.definitions.Signals.{Emission, Status, put_at, is_emitted, values_of, without, combined, combined_all, folded}
 use Rattle.surf_graph.specs.definitions.Formulas.{Wires, Formula, Satisfies, to_nat, is_on, told_env}
-use Rattle.surf_graph.specs.definitions.Copies.{Copy, Context, Emits, Folded, fold_step, fold_emits, emits_without, with_signal, local_copy}
+use Rattle.surf_graph.specs.definitions.Copies.{fold_info, combined_as, Copy, Context, Emits, Folded, fold_step, fold_emits, emits_without, with_signal, local_copy}
 use Rattle.surf_graph.specs.definitions.Tells.{emitted, PureZero}
 use Rattle.surf_graph.proofs.SetValues.{truth_of}
 
@@ -170,21 +170,40 @@ fold_zero tables s (i ∷ m) e h =
     fold_zero_case info i.value (values_of s m) (i.signal == s) (λ eq. its_zero tables s i eq e h.0)
     (ap (λ (k : Option Kind). combined_all info.combine (unwrap_or k kind.Boolean) (pos 0) (values_of s m)) e ∙ all_zero tables s info.combine m e h.1) (fold_zero tables s m e h.1)
 
+fold_zero_as : (tables : Tables) (s : ℕ) (o : Combine) (m : List Emission) → (signal_at tables s).kind ≡ None → PureZero tables m → folded (record (signal_at tables s) { combine = o }) (pos 0) (values_of s m) ≡ pos 0
+fold_zero_as tables s o [] e h = refl
+fold_zero_as tables s o (i ∷ m) e h =
+    let info : SignalInfo = record (signal_at tables s) { combine = o } in
+    fold_zero_case info i.value (values_of s m) (i.signal == s) (λ eq. its_zero tables s i eq e h.0)
+    (ap (λ (k : Option Kind). combined_all o (unwrap_or k kind.Boolean) (pos 0) (values_of s m)) e ∙ all_zero tables s o m e h.1) (fold_zero_as tables s o m e h.1)
+
+same_fold_at : (tables : Tables) (s : ℕ) (v : ℤ) (m : List Emission) (k : Option Kind) → (signal_at tables s).kind ≡ k → ((signal_at tables s).kind ≡ None → v ≡ pos 0) → PureZero tables m
+    → folded (combined_as k (signal_at tables s)) v (values_of s m) ≡ folded (signal_at tables s) v (values_of s m)
+same_fold_at tables s v m None e z h =
+    let or : SignalInfo = record (signal_at tables s) { combine = Or } in
+    ap (λ u. folded or u (values_of s m)) (z e) ∙ fold_zero_as tables s Or m e h ∙ sym (ap (λ u. folded (signal_at tables s) u (values_of s m)) (z e) ∙ fold_zero tables s m e h)
+same_fold_at tables s v m (Some k) e z h = refl
+
+-- combined as it is, a pure signal has the value 0 too
+pub same_fold : (tables : Tables) (s : ℕ) (v : ℤ) (m : List Emission) → ((signal_at tables s).kind ≡ None → v ≡ pos 0) → PureZero tables m
+    → folded (fold_info tables s) v (values_of s m) ≡ folded (signal_at tables s) v (values_of s m)
+same_fold tables s v m z h = same_fold_at tables s v m (signal_at tables s).kind refl z h
+
 -- what the wires of a local signal say
 pub record LocalSays (tables : Tables) (w : ℕ → ℤ) (s : ℕ) (c : Context) (a : Copy) : Type 0 where
   pub present : is_on w c.next ≡ is_emitted (emitted w a.emits) s
-  pub value : w (c.next + 1) ≡ folded (signal_at tables s) (w (c.next + 2)) (values_of s (emitted w a.emits))
+  pub value : w (c.next + 1) ≡ folded (fold_info tables s) (w (c.next + 2)) (values_of s (emitted w a.emits))
   pub pauses : is_on w (c.next + 4) ≡ is_on w c.keep && (to_nat (w a.status) == 2)
   pub holds : is_on w (c.next + 5) ≡ is_on w c.keep && is_on w c.hold
 
 pub local_equations : (tables : Tables) (f w : ℕ → ℤ) (s : ℕ) (last : Formula) (c : Context) (a : Copy) → w 0 ≡ pos 0
-    → Satisfies f w (local_copy tables s last c a).equations → Satisfies f w (fold_emits (signal_at tables s) s a.next 0 (c.next + 2) a.emits).equations → LocalSays tables w s c a
+    → Satisfies f w (local_copy tables s last c a).equations → Satisfies f w (fold_emits (fold_info tables s) s a.next 0 (c.next + 2) a.emits).equations → LocalSays tables w s c a
 local_equations tables f w s last c a z h k =
-    let y = fold_says f w (signal_at tables s) s a.next 0 (c.next + 2) a.emits k in
+    let y = fold_says f w (fold_info tables s) s a.next 0 (c.next + 2) a.emits k in
     let zero_off : is_on w 0 ≡ false = ap is_true z in
     record {
       present = ap is_true h.0 ∙ y.some ∙ ap (λ b. b || is_emitted (emitted w a.emits) s) zero_off;
-      value = h.1.0 ∙ y.value ∙ ap (λ b. folded_from (signal_at tables s) b (w (c.next + 2)) (values_of s (emitted w a.emits))) zero_off;
+      value = h.1.0 ∙ y.value ∙ ap (λ b. folded_from (fold_info tables s) b (w (c.next + 2)) (values_of s (emitted w a.emits))) zero_off;
       pauses = ap is_true h.1.1.1.1.0 ∙ truth_of (is_on w c.keep && is_on w (c.next + 3)) ∙ ap (λ b. is_on w c.keep && b) (ap is_true h.1.1.1.0 ∙ truth_of (to_nat (w a.status) == 2));
       holds = ap is_true h.1.1.1.1.1.0 ∙ truth_of (is_on w c.keep && is_on w c.hold);
     }

@@ -18,7 +18,7 @@ use Rattle.surf_graph.proofs.Booleans.{left_of, or_left}
 use Rattle.java_values.specs.Arithmetic.{of_bool}
 use Rattle.std.specs.Int.{int_max}
 use Rattle.surf_graph.specs.definitions.Formulas.{Wires, Value, Holds, Const, Equation, Satisfies, formula_value, to_nat, is_on, told, told_env, readings}
-use Rattle.surf_graph.specs.definitions.Copies.{Copy, Context, Sets, below, from, joined, behind, plain_copy, starting_if, other_context, has, joins, both_write, alternatives, start_context, part_context, choice_own, turn_own, branch_context, second_branch, weak_context, tested_context, local_context, fold_emits, emitted_value}
+use Rattle.surf_graph.specs.definitions.Copies.{fold_info, Copy, Context, Sets, below, from, joined, behind, plain_copy, starting_if, other_context, has, joins, both_write, alternatives, start_context, part_context, choice_own, turn_own, branch_context, second_branch, weak_context, tested_context, local_context, fold_emits, emitted_value}
 use Rattle.surf_graph.specs.definitions.StartingCopies.{writes0, start}
 use Rattle.surf_graph.specs.definitions.Tells.{emitted, Off, AllOff, Stands, Tells, Active, Silent, PureZero, registers_set, set_value}
 use Rattle.surf_graph.specs.definitions.Sources.{IsSource}
@@ -308,7 +308,7 @@ start_active tables f w (Suspend armed t p) c src l z h on free =
     (λ s g. suspend_stands tables armed t p s c.register (registers_set w a.sets) g) a.equations
 start_active tables f w (Local s v p) c src l z h on free =
     let a = start tables p (local_context tables s c) in
-    let fold = fold_emits (signal_at tables s) s a.next 0 (c.next + 2) a.emits in
+    let fold = fold_emits (fold_info tables s) s a.next 0 (c.next + 2) a.emits in
     let r = h.1.1.1.1.1.1 in
     let says = local_equations tables f w s (Const v) c a z h (satisfies_front f w fold.equations a.equations r) in
     local_active tables (told w c.wires.last) (told w c.wires.variables) w s v v p p c a _ _ says h.1.1.0 (λ e. src.0) free

@@ -11,7 +11,7 @@ use Rattle.kernel_rules.specs.definitions.TickRule.{writes}
 use Rattle.kernel_rules.specs.definitions.Registers.{registers}
 pub use Rattle.surf_graph.specs.definitions.Shows.{Outside}
 use Rattle.surf_graph.specs.definitions.Formulas.{Wires, Formula, Const, Value, Holds, Equation}
-use Rattle.surf_graph.specs.definitions.Copies.{Copy, Context, Emits, Sets, below, from, joined, none, behind, nothing_built, plain_copy, starting_if, next_context, other_context, has, both_write, joins, join_wires, wires_by, alternatives, start_context, part_context, choice_own, turn_own, branch_context, second_branch, beside, of_trap_copy, weak_context, weak_copy, tested_context, tested_copy, local_context, local_copy, own_registers, Folded, fold_step, fold_emits, emits_without, emitted_value}
+use Rattle.surf_graph.specs.definitions.Copies.{fold_info, Copy, Context, Emits, Sets, below, from, joined, none, behind, nothing_built, plain_copy, starting_if, next_context, other_context, has, both_write, joins, join_wires, wires_by, alternatives, start_context, part_context, choice_own, turn_own, branch_context, second_branch, beside, of_trap_copy, weak_context, weak_copy, tested_context, tested_copy, local_context, local_copy, own_registers, Folded, fold_step, fold_emits, emits_without, emitted_value}
 use Rattle.surf_graph.specs.definitions.StartingCopies.{writes0, start}
 use Rattle.surf_graph.proofs.Frames.{WiresBelow, wires_more, Reads, Within, EmitsBelow, SetsBelow, Inside, within_more, within_append, emits_more, emits_append, sets_more, sets_append, sets_if}
 
@@ -352,9 +352,9 @@ inside_local tables s last c a o u reads =
     let x = u.status in
     let k = o.keep in
     let d = o.hold in
-    let r = fold_emits (signal_at tables s) s a.next 0 (n + 2) a.emits in
+    let r = fold_emits (fold_info tables s) s a.next 0 (n + 2) a.emits in
     let m = a.next + length r.equations in
-    let z = fold_inside (signal_at tables s) s a.next 0 (n + 2) m a.emits u.emits (omega (arith, g)) (omega (arith, g)) (omega arith) in
+    let z = fold_inside (fold_info tables s) s a.next 0 (n + 2) m a.emits u.emits (omega (arith, g)) (omega (arith, g)) (omega arith) in
     let wide : a.next ≤ m = omega arith in
     let y = z.some in
     let v = z.value in

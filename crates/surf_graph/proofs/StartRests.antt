@@ -10,7 +10,7 @@ use Rattle.kernel_rules.specs.definitions.Registers.{registers}
 use Rattle.java_values.specs.Arithmetic.{of_bool}
 use Rattle.std.specs.Int.{int_max}
 use Rattle.surf_graph.specs.definitions.Formulas.{Value, Holds, Equation, Satisfies, formula_value, to_nat, is_on, of_trap, of_weak_abort, told}
-use Rattle.surf_graph.specs.definitions.Copies.{Copy, Context, starting_if, other_context, joins, both_write, start_context, part_context, branch_context, second_branch, weak_context, tested_context, local_context, fold_emits, emitted_value}
+use Rattle.surf_graph.specs.definitions.Copies.{fold_info, Copy, Context, starting_if, other_context, joins, both_write, start_context, part_context, branch_context, second_branch, weak_context, tested_context, local_context, fold_emits, emitted_value}
 use Rattle.surf_graph.specs.definitions.StartingCopies.{writes0, start}
 use Rattle.surf_graph.proofs.Frames.{wires_more, Agreeing, agree_twice, satisfies_still, value_agrees, own, own_agrees, own_at, own_first}
 use Rattle.surf_graph.proofs.StartInside.{Outside, outside_part, outside_other, outside_start, outside_with, outside_local, start_inside, emitted_reads}
@@ -362,8 +362,8 @@ start_rests tables f w (Local s last p) c o z off free =
     let g0 = own_agrees n vs w in
     let x = start_rests tables f w0 p (local_context tables s c) out (zero_at n w w0 g0 o.some z) (at n c.go w w0 false g0 o.go off) (at n c.hold w w0 false g0 o.hold free) in
     let u = x.values in
-    let fold = fold_emits (signal_at tables s) s a.next 0 (n + 2) a.emits in
-    let y = fold_solution f u (signal_at tables s) s a.next 0 (n + 2) a.emits i.emits (omega (arith, grows)) (omega (arith, grows)) in
+    let fold = fold_emits (fold_info tables s) s a.next 0 (n + 2) a.emits in
+    let y = fold_solution f u (fold_info tables s) s a.next 0 (n + 2) a.emits i.emits (omega (arith, grows)) (omega (arith, grows)) in
     let v = y.values in
     let one = one_solved f w n 6 vs a v (omega arith) (agree_twice (n + 6) a.next w0 u v grows x.same y.same) in
     let g = one.same in
@@ -372,7 +372,7 @@ start_rests tables f w (Local s last p) c o z off free =
     let ha = satisfies_still a.next f u v a.equations y.same i.equations x.solves in
     let sa = start_silent tables f v p (local_context tables s c) zv ha (at n c.go w v false g o.go off) hold in
     let zu = zero_at n w u (agree_twice n (n + 6) w w0 u (omega arith) g0 x.same) o.some z in
-    let says = fold_says f v (signal_at tables s) s a.next 0 (n + 2) a.emits y.solves in
+    let says = fold_says f v (fold_info tables s) s a.next 0 (n + 2) a.emits y.solves in
     let none = (sa.quiet).emits in
     let off_zero : is_on v 0 ≡ false = ap is_true zv in
     let some_off : is_on v fold.some ≡ false = says.some ∙ ap₂ (λ b l. b || is_emitted l s) off_zero none in
@@ -383,7 +383,7 @@ start_rests tables f w (Local s last p) c o z off free =
       solves = (
         one.first ∙ sym (y.is_bool (zu ∙ sym (ap of_bool (ap is_true zu))) ∙ ap of_bool some_off),
         (
-          one.own 1 (omega arith) ∙ sym (says.value ∙ ap₂ (λ b l. folded_from (signal_at tables s) b (v (n + 2)) (values_of s l)) off_zero none ∙ one.own 2 (omega arith)),
+          one.own 1 (omega arith) ∙ sym (says.value ∙ ap₂ (λ b l. folded_from (fold_info tables s) b (v (n + 2)) (values_of s l)) off_zero none ∙ one.own 2 (omega arith)),
           (
             one.own 2 (omega arith),
             (

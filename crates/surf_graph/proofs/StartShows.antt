@@ -16,7 +16,7 @@ use Rattle.surf_graph.proofs.Booleans.{or_left}
 use Rattle.java_values.specs.Arithmetic.{of_bool}
 use Rattle.std.specs.Int.{int_max}
 use Rattle.surf_graph.specs.definitions.Formulas.{Wires, Formula, Value, Holds, Const, Satisfies, formula_value, to_nat, is_on, of_trap, of_weak_abort, told, told_env, readings}
-use Rattle.surf_graph.specs.definitions.Copies.{Copy, Context, below, from, joined, starting_if, other_context, joins, both_write, alternatives, start_context, part_context, choice_own, turn_own, branch_context, second_branch, weak_context, weak_copy, tested_context, tested_copy, local_context, fold_emits, emitted_value}
+use Rattle.surf_graph.specs.definitions.Copies.{fold_info, Copy, Context, below, from, joined, starting_if, other_context, joins, both_write, alternatives, start_context, part_context, choice_own, turn_own, branch_context, second_branch, weak_context, weak_copy, tested_context, tested_copy, local_context, fold_emits, emitted_value}
 use Rattle.surf_graph.specs.definitions.StartingCopies.{writes0, start}
 use Rattle.surf_graph.specs.definitions.Tells.{Tells, Active, Stands, registers_set}
 use Rattle.surf_graph.specs.definitions.Sources.{IsSource}
@@ -24,7 +24,7 @@ use Rattle.surf_graph.proofs.SetValues.{truth_of, off_joined, off_below, off_fro
 use Rattle.surf_graph.proofs.Parts.{greater_of, by_cases, first_stands, second_stands, first_dies, second_dies, Seq_first, Seq_second, turn_ended, turn_waits}
 use Rattle.surf_graph.proofs.Beside.{branch_ticks, par_active, next_one}
 use Rattle.surf_graph.proofs.Wraps.{trap_active, trap_status, weak_status, weak_stops, weak_goes, whole_tells, strong_stops, abort_stands, suspend_stands}
-use Rattle.surf_graph.proofs.Locals.{local_equations, told_local, fold_says, folded_from}
+use Rattle.surf_graph.proofs.Locals.{same_fold, local_equations, told_local, fold_says, folded_from}
 use Rattle.surf_graph.proofs.LocalCopies.{local_active}
 use Rattle.surf_graph.proofs.Frames.{WiresBelow, wires_more, Agreeing, agree_twice, Reads, Inside, satisfies_still, value_agrees, env_agrees, told_agrees, own, own_agrees, own_at, own_first, tells_still}
 use Rattle.surf_graph.proofs.StartInside.{Outside, outside_part, outside_other, outside_start, outside_with, outside_local, start_inside, emitted_reads}
@@ -666,8 +666,8 @@ start_shows tables f w (Local s v0 p) c o out src l z on free h =
     (ticks_move tables p i last (told w0 c.wires.last) (put_at env s (record { present = b; value = val })) (told_env w0 d0.wires) vars (told w0 c.wires.variables)
     (sym (told_agrees n w w0 c.wires.last g0 (out.wires).last)) (sym env0) (sym (told_agrees n w w0 c.wires.variables g0 (out.wires).variables)) h.3) in
     let u = x.values in
-    let fold = fold_emits (signal_at tables s) s a.next 0 (n + 2) a.emits in
-    let y = fold_solution f u (signal_at tables s) s a.next 0 (n + 2) a.emits ia.emits (omega (arith, grows)) (omega (arith, grows)) in
+    let fold = fold_emits (fold_info tables s) s a.next 0 (n + 2) a.emits in
+    let y = fold_solution f u (fold_info tables s) s a.next 0 (n + 2) a.emits ia.emits (omega (arith, grows)) (omega (arith, grows)) in
     let v = y.values in
     let one = one_solved f w n 6 vs a v (omega arith) (agree_twice (n + 6) a.next w0 u v grows x.same y.same) in
     let g = one.same in
@@ -675,13 +675,13 @@ start_shows tables f w (Local s v0 p) c o out src l z on free h =
     let zu = zero_at n w u (agree_twice n (n + 6) w w0 u (omega arith) g0 x.same) out.some z in
     let ha = satisfies_still a.next f u v a.equations y.same ia.equations x.solves in
     let ta = part_tells tables f w0 v p d0.register c.keep (n + 6) a i (n + 6) x y.same ia (omega (arith, grows, keep)) in
-    let says = fold_says f v (signal_at tables s) s a.next 0 (n + 2) a.emits y.solves in
+    let says = fold_says f v (fold_info tables s) s a.next 0 (n + 2) a.emits y.solves in
     let off_zero : is_on v 0 ≡ false = ap is_true zv in
     let free_v = at n c.hold w v false g out.hold free in
     let keep_v = at n c.keep w v (is_on w c.keep) g out.keep refl in
     let some_on : is_on v fold.some ≡ b = says.some ∙ ap₂ (λ x y. x || is_emitted y s) off_zero ta.emits ∙ sym h.4 in
     let e0 : v n ≡ v fold.some = one.first ∙ sym (y.is_bool (zu ∙ sym (ap of_bool (ap is_true zu))) ∙ ap of_bool some_on) in
-    let e1 : v (n + 1) ≡ v fold.value = one.own 1 (omega arith) ∙ sym (says.value ∙ ap₂ (λ x y. folded_from (signal_at tables s) x (v (n + 2)) (values_of s y)) off_zero ta.emits ∙ ap (λ x. folded (signal_at tables s) x (values_of s i.emits)) (one.own 2 (omega arith)) ∙ sym h.5) in
+    let e1 : v (n + 1) ≡ v fold.value = one.own 1 (omega arith) ∙ sym (says.value ∙ ap₂ (λ x y. folded_from (fold_info tables s) x (v (n + 2)) (values_of s y)) off_zero ta.emits ∙ ap (λ x. folded (fold_info tables s) x (values_of s i.emits)) (one.own 2 (omega arith)) ∙ same_fold tables s v0 i.emits (λ e. src.0) ta.pure ∙ sym h.5) in
     let pauses : is_on v (n + 3) ≡ (i.code == 1) = ap is_true (one.own 3 (omega arith)) ∙ truth_of (i.code == 1) in
     let e3 : v (n + 3) ≡ of_bool (to_nat (v a.status) == 2) = one.own 3 (omega arith) ∙ sym (ap (λ x. of_bool (to_nat x == 2)) ta.status ∙ ap of_bool (next_one i.code)) in
     let e4 : v (n + 4) ≡ of_bool (is_on v c.keep && is_on v (n + 3)) = one.own 4 (omega arith) ∙ sym (ap₂ (λ x y. of_bool (x && y)) keep_v pauses) in

@@ -1,7 +1,9 @@
 -- A copy of a statement, and how copies are put together. Wire 0 is always 0.
 use Rattle.std.specs.Prelude.{ℕ, ◌+◌, ◌==◌, nat_lt, pos, Bool, true, false, ◌&&◌, ◌||◌, not, cond, List, [], ◌∷◌, ◌++◌, length, Option, Some, None}
 use Rattle.kernel_terms.specs.declared.tables.Tables.{Tables}
+use Rattle.java_values.specs.declared.kind.Kind.{Kind}
 use Rattle.kernel_terms.specs.declared.tables.SignalInfo.{SignalInfo}
+use Rattle.kernel_terms.specs.declared.tables.Combine.TheVariants as combine
 use Rattle.kernel_terms.specs.TableEntries.{signal_at}
 use Rattle.kernel_terms.specs.Expressions.{Expression, Test}
 use Rattle.kernel_terms.specs.Statements.{Stmt}
@@ -169,11 +171,19 @@ local_context tables s c =
       next = c.next + 6;
     }
 
+-- the emissions of a pure signal, which are 0, are combined as truth values
+abbrev pub combined_as : Option Kind → SignalInfo → SignalInfo
+combined_as None info = record info { combine = combine.Or }
+combined_as (Some k) info = info
+
+abbrev pub fold_info : Tables → ℕ → SignalInfo
+fold_info tables s = combined_as (signal_at tables s).kind (signal_at tables s)
+
 -- a local signal, of whose last value this is the formula
 abbrev pub local_copy : Tables → ℕ → Formula → Context → Copy → Copy
 local_copy tables s last c a =
     let n = c.next in
-    let folded = fold_emits (signal_at tables s) s a.next 0 (n + 2) a.emits in
+    let folded = fold_emits (fold_info tables s) s a.next 0 (n + 2) a.emits in
     record a {
       equations =
           record { wire = n; formula = Same folded.some }
