@@ -2,6 +2,8 @@
 use Rattle.std.proofs.Common.{◌≡◌, ◌+◌, ℕ, ℤ, pos, Bool, true, false, ◌&&◌, ◌||◌, not, cond, int_le, int_lt, List, [], ◌∷◌, ◌++◌, refl, ap, ap₂, ◌∙◌}
 use Rattle.java_values.specs.Arithmetic.{is_true, of_bool, applied1, applied2, cast_to}
 use Rattle.java_values.specs.declared.kind.Kind.{Kind}
+use Rattle.java_values.specs.declared.kind.Kind.TheVariants as kind
+use Rattle.std.specs.Int.{int_wrap}
 use Rattle.java_values.specs.declared.op.Op2.{Op2}
 use Rattle.java_values.specs.declared.op.Op2.TheVariants as op
 use Rattle.kernel_terms.specs.declared.tables.Combine.{Combine}
@@ -10,7 +12,7 @@ use Rattle.kernel_terms.specs.TableEntries.{value_kind}
 use Rattle.kernel_terms.specs.Expressions.{Expression, Literal, Variable, SignalValue, ChannelValue, Unary, Binary, Cast, kind_of, Test, IsPresent, Not, Both, Either}
 use Rattle.kernel_rules.specs.definitions.Expressions.{value_of, holds}
 use Rattle.kernel_rules.specs.definitions.Signals.{combined}
-use Rattle.surf_graph.specs.definitions.Formulas.{Wires, Formula, Const, Get, Same, And, AndNot, Or, Choose, StatusOf, Status, IsStatus, Greater, OfTrap, OfWeakAbort, Value, Holds, Equation, Satisfies, formula_value, is_on, told_env, readings}
+use Rattle.surf_graph.specs.definitions.Formulas.{Wires, Formula, Const, Get, Same, And, AndNot, Or, Choose, Zero, StatusOf, Status, IsStatus, Greater, OfTrap, OfWeakAbort, Value, Holds, Equation, Satisfies, formula_value, is_on, told_env, readings}
 use Rattle.surf_graph.specs.definitions.Formulas as formula
 use Rattle.surf_graph.specs.definitions.SpelledOut.{gives, value_wires, test_wires, operator_wires, extreme_wires, combined_wires, spelled, spelled_out}
 use Rattle.surf_graph.proofs.SetValues.{truth_of}
@@ -96,6 +98,15 @@ combined_given f w combine.And k n a b h = operator_given f w op.And k n a b h
 combined_given f w combine.Or k n a b h = operator_given f w op.Or k n a b h
 combined_given f w combine.Xor k n a b h = operator_given f w op.Xor k n a b h
 
+zero_cast : (k : Kind) → cast_to k (pos 0) ≡ pos 0
+unfolding int_wrap
+zero_cast kind.Boolean = refl
+zero_cast kind.Byte = refl
+zero_cast kind.Short = refl
+zero_cast kind.Char = refl
+zero_cast kind.Int = refl
+zero_cast kind.Long = refl
+
 -- the last operation of a formula has its value
 pub spelled_given : (f w : ℕ → ℤ) (n : ℕ) (i : Formula) → w 0 ≡ pos 0 → Meets f w (spelled n i).equations → given_by f w (spelled n i).operation ≡ formula_value f w i
 spelled_given f w n (Const m) z h = refl
@@ -105,6 +116,7 @@ spelled_given f w n (And a b) z h = refl
 spelled_given f w n (AndNot a b) z h = ap (λ x. of_bool (is_on w a && x)) (ap is_true h.0 ∙ truth_of (not (is_on w b)))
 spelled_given f w n (Or a b) z h = refl
 spelled_given f w n (Choose c a b) z h = refl
+spelled_given f w n (Zero k) z h = ap (λ x. cast_to k x) h.0 ∙ zero_cast k
 spelled_given f w n (StatusOf code) z h = h.0
 spelled_given f w n (Status go code) z h = ap₂ (λ x y. cond (is_on w go) x y) (h.1.0 ∙ h.0) z
 spelled_given f w n (IsStatus a code) z h = ap of_bool (ap (λ x. int_eq (w a) x) h.0 ∙ same_status (w a) code)

@@ -13,7 +13,7 @@ pub use Rattle.surf_graph.specs.definitions.Shows.{Agreeing}
 pub use Rattle.surf_graph.specs.definitions.Formulas.{WiresBelow, Reads, Within}
 use Rattle.java_values.specs.Arithmetic.{of_bool}
 use Rattle.std.specs.Int.{int_max}
-use Rattle.surf_graph.specs.definitions.Formulas.{Wires, Formula, Const, Get, Same, And, AndNot, Or, Choose, StatusOf, Status, IsStatus, Greater, OfTrap, OfWeakAbort, Combine, Value, Holds, Equation, Satisfies, formula_value, to_nat, is_on, of_trap, of_weak_abort, told, told_env, readings}
+use Rattle.surf_graph.specs.definitions.Formulas.{Wires, Formula, Const, Get, Same, And, AndNot, Or, Choose, Zero, StatusOf, Status, IsStatus, Greater, OfTrap, OfWeakAbort, Combine, Value, Holds, Equation, Satisfies, formula_value, to_nat, is_on, of_trap, of_weak_abort, told, told_env, readings}
 use Rattle.surf_graph.specs.definitions.Copies.{Copy, Emits, Sets}
 use Rattle.surf_graph.specs.definitions.Tells.{emitted, AllOff, Stands, Tells, registers_set, set_value}
 use Rattle.surf_graph.proofs.SetValues.{is_less, is_not_less}
@@ -53,6 +53,7 @@ reads_more n m (And a b) le h = let i = h.0 in let j = h.1 in (omega (arith, i),
 reads_more n m (AndNot a b) le h = let i = h.0 in let j = h.1 in (omega (arith, i), omega (arith, j))
 reads_more n m (Or a b) le h = let i = h.0 in let j = h.1 in (omega (arith, i), omega (arith, j))
 reads_more n m (Choose c a b) le h = let i = h.0 in let j = h.1 in let k = h.2 in (omega (arith, i), omega (arith, j), omega (arith, k))
+reads_more n m (Zero k) le h = tt
 reads_more n m (StatusOf code) le h = tt
 reads_more n m (Status go code) le h = omega (arith, h)
 reads_more n m (IsStatus a k) le h = omega (arith, h)
@@ -121,6 +122,7 @@ value_agrees n f w v (And a b) h r = ap₂ (λ x y. of_bool (is_true x && is_tru
 value_agrees n f w v (AndNot a b) h r = ap₂ (λ x y. of_bool (is_true x && not (is_true y))) (h.at a r.0) (h.at b r.1)
 value_agrees n f w v (Or a b) h r = ap₂ (λ x y. of_bool (is_true x || is_true y)) (h.at a r.0) (h.at b r.1)
 value_agrees n f w v (Choose c a b) h r = ap (λ x. cond (is_true x) (v a) (v b)) (h.at c r.0) ∙ ap₂ (λ x y. cond (is_on w c) x y) (h.at a r.1) (h.at b r.2)
+value_agrees n f w v (Zero k) h r = refl
 value_agrees n f w v (StatusOf code) h r = refl
 value_agrees n f w v (Status go code) h r = ap (λ x. cond (is_true x) (pos (suc code)) (pos 0)) (h.at go r)
 value_agrees n f w v (IsStatus a k) h r = ap (λ x. of_bool (to_nat x == suc k)) (h.at a r)

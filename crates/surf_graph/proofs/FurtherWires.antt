@@ -9,7 +9,7 @@ use Rattle.kernel_terms.specs.declared.tables.Combine.{Combine}
 use Rattle.kernel_terms.specs.declared.tables.Combine.TheVariants as combine
 use Rattle.kernel_terms.specs.TableEntries.{value_kind}
 use Rattle.kernel_terms.specs.Expressions.{Expression, Literal, Variable, SignalValue, ChannelValue, Unary, Binary, Cast, kind_of, Test, IsPresent, Not, Both, Either}
-use Rattle.surf_graph.specs.definitions.Formulas.{Wires, Formula, Const, Get, Same, And, AndNot, Or, Choose, StatusOf, Status, IsStatus, Greater, OfTrap, OfWeakAbort, Value, Holds, Equation, Satisfies, formula_value, Within, Reads, WiresBelow}
+use Rattle.surf_graph.specs.definitions.Formulas.{Wires, Formula, Const, Get, Same, And, AndNot, Or, Choose, Zero, StatusOf, Status, IsStatus, Greater, OfTrap, OfWeakAbort, Value, Holds, Equation, Satisfies, formula_value, Within, Reads, WiresBelow}
 use Rattle.surf_graph.specs.definitions.Formulas as formula
 use Rattle.surf_graph.specs.definitions.Operations.{Solved, OperationsShow}
 use Rattle.surf_graph.specs.definitions.Copies.{Copy, Context}
@@ -178,6 +178,7 @@ spelled_runs n (And a b) r = none_run n
 spelled_runs n (AndNot a b) r = record { ordered = (refl, r.1, tt); size = omega arith }
 spelled_runs n (Or a b) r = none_run n
 spelled_runs n (Choose c a b) r = none_run n
+spelled_runs n (Zero k) r = record { ordered = (refl, tt, tt); size = omega arith }
 spelled_runs n (StatusOf code) r = record { ordered = (refl, tt, tt); size = omega arith }
 spelled_runs n (Status go code) r = record { ordered = (refl, tt, (refl, omega arith, tt)); size = omega arith }
 spelled_runs n (IsStatus a code) r = record { ordered = (refl, tt, tt); size = omega arith }

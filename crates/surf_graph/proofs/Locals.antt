@@ -13,8 +13,9 @@ use Rattle.kernel_terms.specs.declared.tables.Combine.{Combine}
 use Rattle.kernel_terms.specs.declared.tables.Combine.TheVariants.{Add, Max, Min, And, Or, Xor}
 use Rattle.kernel_terms.specs.TableEntries.{signal_at, value_kind}
 use Rattle.kernel_rules.specs.definitions.Signals.{Emission, Status, put_at, is_emitted, values_of, without, combined, combined_all, folded}
-use Rattle.surf_graph.specs.definitions.Formulas.{Wires, Formula, Satisfies, to_nat, is_on, told_env}
+use Rattle.surf_graph.specs.definitions.Formulas.{Wires, Formula, Reads, formula_value, Satisfies, to_nat, is_on, told_env}
 use Rattle.surf_graph.specs.definitions.Copies.{fold_info, combined_as, Copy, Context, Emits, Folded, fold_step, fold_emits, emits_without, with_signal, local_copy}
+use Rattle.surf_graph.specs.definitions.StartingCopies.{first_formula}
 use Rattle.surf_graph.specs.definitions.Tells.{emitted, PureZero}
 use Rattle.surf_graph.proofs.SetValues.{truth_of}
 
@@ -188,6 +189,16 @@ same_fold_at tables s v m (Some k) e z h = refl
 pub same_fold : (tables : Tables) (s : ℕ) (v : ℤ) (m : List Emission) → ((signal_at tables s).kind ≡ None → v ≡ pos 0) → PureZero tables m
     → folded (fold_info tables s) v (values_of s m) ≡ folded (signal_at tables s) v (values_of s m)
 same_fold tables s v m z h = same_fold_at tables s v m (signal_at tables s).kind refl z h
+
+-- what it begins with
+
+pub first_is : (f w : ℕ → ℤ) (k : Option Kind) → formula_value f w (first_formula k) ≡ pos 0
+first_is f w None = refl
+first_is f w (Some k) = refl
+
+pub first_reads : (m : ℕ) (k : Option Kind) → Reads m (first_formula k)
+first_reads m None = tt
+first_reads m (Some k) = tt
 
 -- what the wires of a local signal say
 pub record LocalSays (tables : Tables) (w : ℕ → ℤ) (s : ℕ) (c : Context) (a : Copy) : Type 0 where

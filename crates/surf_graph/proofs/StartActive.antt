@@ -19,7 +19,7 @@ use Rattle.java_values.specs.Arithmetic.{of_bool}
 use Rattle.std.specs.Int.{int_max}
 use Rattle.surf_graph.specs.definitions.Formulas.{Wires, Value, Holds, Const, Equation, Satisfies, formula_value, to_nat, is_on, told, told_env, readings}
 use Rattle.surf_graph.specs.definitions.Copies.{fold_info, Copy, Context, Sets, below, from, joined, behind, plain_copy, starting_if, other_context, has, joins, both_write, alternatives, start_context, part_context, choice_own, turn_own, branch_context, second_branch, weak_context, tested_context, local_context, fold_emits, emitted_value}
-use Rattle.surf_graph.specs.definitions.StartingCopies.{writes0, start}
+use Rattle.surf_graph.specs.definitions.StartingCopies.{first_formula, writes0, start}
 use Rattle.surf_graph.specs.definitions.Tells.{emitted, Off, AllOff, Stands, Tells, Active, Silent, PureZero, registers_set, set_value}
 use Rattle.surf_graph.specs.definitions.Sources.{IsSource}
 use Rattle.surf_graph.proofs.SetValues.{truth_of, satisfies_front, satisfies_back, off_joined, off_below, off_from, off_none}
@@ -28,7 +28,7 @@ use Rattle.surf_graph.proofs.Passes.{start_passes}
 use Rattle.surf_graph.proofs.Alternatives.{Joins, active_first, active_second}
 use Rattle.surf_graph.proofs.Beside.{Keeps, branch_ticks, par_active}
 use Rattle.surf_graph.proofs.Wraps.{trap_active, weak_active, whole_active, tested_goes, strong_stops, abort_stands, suspend_stands}
-use Rattle.surf_graph.proofs.Locals.{local_equations}
+use Rattle.surf_graph.proofs.Locals.{first_is, local_equations}
 use Rattle.surf_graph.proofs.LocalCopies.{local_active}
 use Rattle.surf_graph.proofs.StartSilent.{start_silent, silent_if, ended_wire, tested_says}
 
@@ -310,8 +310,8 @@ start_active tables f w (Local s v p) c src l z h on free =
     let a = start tables p (local_context tables s c) in
     let fold = fold_emits (fold_info tables s) s a.next 0 (c.next + 2) a.emits in
     let r = h.1.1.1.1.1.1 in
-    let says = local_equations tables f w s (Const v) c a z h (satisfies_front f w fold.equations a.equations r) in
-    local_active tables (told w c.wires.last) (told w c.wires.variables) w s v v p p c a _ _ says h.1.1.0 (λ e. src.0) free
+    let says = local_equations tables f w s (first_formula (signal_at tables s).kind) c a z h (satisfies_front f w fold.equations a.equations r) in
+    local_active tables (told w c.wires.last) (told w c.wires.variables) w s v v p p c a _ _ says (h.1.1.0 ∙ first_is f w (signal_at tables s).kind ∙ sym src.0) (λ e. src.0) free
     (start_active tables f w p (local_context tables s c) src.1 l z (satisfies_back f w fold.equations a.equations r) on free)
 start_active tables f w (Send ch e) c src l z h on free =
     let x = told w c.wires.variables in

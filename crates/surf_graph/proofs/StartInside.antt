@@ -12,7 +12,8 @@ use Rattle.kernel_rules.specs.definitions.Registers.{registers}
 pub use Rattle.surf_graph.specs.definitions.Shows.{Outside}
 use Rattle.surf_graph.specs.definitions.Formulas.{Wires, Formula, Const, Value, Holds, Equation}
 use Rattle.surf_graph.specs.definitions.Copies.{fold_info, Copy, Context, Emits, Sets, below, from, joined, none, behind, nothing_built, plain_copy, starting_if, next_context, other_context, has, both_write, joins, join_wires, wires_by, alternatives, start_context, part_context, choice_own, turn_own, branch_context, second_branch, beside, of_trap_copy, weak_context, weak_copy, tested_context, tested_copy, local_context, local_copy, own_registers, Folded, fold_step, fold_emits, emits_without, emitted_value}
-use Rattle.surf_graph.specs.definitions.StartingCopies.{writes0, start}
+use Rattle.surf_graph.specs.definitions.StartingCopies.{first_formula, writes0, start}
+use Rattle.surf_graph.proofs.Locals.{first_reads}
 use Rattle.surf_graph.proofs.Frames.{WiresBelow, wires_more, Reads, Within, EmitsBelow, SetsBelow, Inside, within_more, within_append, emits_more, emits_append, sets_more, sets_append, sets_if}
 
 pub outside_part : (go k : ℕ) (c : Context) → Outside c → go < c.next + k → Outside (part_context go k c)
@@ -513,7 +514,7 @@ start_inside tables (Abort false true t p) c o =
     let g = u.grows in
     inside_tested t c.go 0 c (start tables p (tested_context c)) o u (omega (arith, g, i))
 start_inside tables (Suspend armed t p) c o = start_inside tables p c o
-start_inside tables (Local s v p) c o = inside_local tables s (Const v) c (start tables p (local_context tables s c)) o (start_inside tables p (local_context tables s c) (outside_local tables s c o)) (λ m. tt)
+start_inside tables (Local s v p) c o = inside_local tables s (first_formula (signal_at tables s).kind) c (start tables p (local_context tables s c)) o (start_inside tables p (local_context tables s c) (outside_local tables s c o)) (λ m. first_reads m (signal_at tables s).kind)
 start_inside tables (Send ch e) c o =
     let w = wires_more c.next (c.next + 3) c.wires (omega arith) o.wires in
     let g = o.go in

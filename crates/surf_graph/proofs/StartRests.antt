@@ -17,7 +17,7 @@ use Rattle.surf_graph.proofs.StartInside.{Outside, outside_part, outside_other, 
 use Rattle.surf_graph.proofs.StartSilent.{start_silent, silent_if}
 use Rattle.surf_graph.proofs.Joining.{joining}
 use Rattle.surf_graph.proofs.Solutions.{Solution, one_solved, two_solved, at, zero_at, fold_solution}
-use Rattle.surf_graph.proofs.Locals.{fold_says, folded_from}
+use Rattle.surf_graph.proofs.Locals.{first_is, fold_says, folded_from}
 
 pub satisfies_append : (f w : ℕ → ℤ) (es ds : List Equation) → Satisfies f w es → Satisfies f w ds → Satisfies f w (es ++ ds)
 satisfies_append f w [] ds h k = k
@@ -353,7 +353,7 @@ start_rests tables f w (Abort false true t p) c o z off free =
 start_rests tables f w (Suspend armed t p) c o z off free = start_rests tables f w p c o z off free
 start_rests tables f w (Local s last p) c o z off free =
     let n = c.next in
-    let vs = pos 0 ∷ last ∷ last ∷ pos 0 ∷ pos 0 ∷ pos 0 ∷ [] in
+    let vs = pos 0 ∷ pos 0 ∷ pos 0 ∷ pos 0 ∷ pos 0 ∷ pos 0 ∷ [] in
     let w0 = own n vs w in
     let a = start tables p (local_context tables s c) in
     let out = outside_local tables s c o in
@@ -385,7 +385,7 @@ start_rests tables f w (Local s last p) c o z off free =
         (
           one.own 1 (omega arith) ∙ sym (says.value ∙ ap₂ (λ b l. folded_from (fold_info tables s) b (v (n + 2)) (values_of s l)) off_zero none ∙ one.own 2 (omega arith)),
           (
-            one.own 2 (omega arith),
+            one.own 2 (omega arith) ∙ sym (first_is f v (signal_at tables s).kind),
             (
               one.own 3 (omega arith) ∙ sym (ap (λ b. of_bool (to_nat b == 2)) (sa.quiet).status),
               (

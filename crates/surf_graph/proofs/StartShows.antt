@@ -17,14 +17,14 @@ use Rattle.java_values.specs.Arithmetic.{of_bool}
 use Rattle.std.specs.Int.{int_max}
 use Rattle.surf_graph.specs.definitions.Formulas.{Wires, Formula, Value, Holds, Const, Satisfies, formula_value, to_nat, is_on, of_trap, of_weak_abort, told, told_env, readings}
 use Rattle.surf_graph.specs.definitions.Copies.{fold_info, Copy, Context, below, from, joined, starting_if, other_context, joins, both_write, alternatives, start_context, part_context, choice_own, turn_own, branch_context, second_branch, weak_context, weak_copy, tested_context, tested_copy, local_context, fold_emits, emitted_value}
-use Rattle.surf_graph.specs.definitions.StartingCopies.{writes0, start}
+use Rattle.surf_graph.specs.definitions.StartingCopies.{first_formula, writes0, start}
 use Rattle.surf_graph.specs.definitions.Tells.{Tells, Active, Stands, registers_set}
 use Rattle.surf_graph.specs.definitions.Sources.{IsSource}
 use Rattle.surf_graph.proofs.SetValues.{truth_of, off_joined, off_below, off_from}
 use Rattle.surf_graph.proofs.Parts.{greater_of, by_cases, first_stands, second_stands, first_dies, second_dies, Seq_first, Seq_second, turn_ended, turn_waits}
 use Rattle.surf_graph.proofs.Beside.{branch_ticks, par_active, next_one}
 use Rattle.surf_graph.proofs.Wraps.{trap_active, trap_status, weak_status, weak_stops, weak_goes, whole_tells, strong_stops, abort_stands, suspend_stands}
-use Rattle.surf_graph.proofs.Locals.{same_fold, local_equations, told_local, fold_says, folded_from}
+use Rattle.surf_graph.proofs.Locals.{first_is, same_fold, local_equations, told_local, fold_says, folded_from}
 use Rattle.surf_graph.proofs.LocalCopies.{local_active}
 use Rattle.surf_graph.proofs.Frames.{WiresBelow, wires_more, Agreeing, agree_twice, Reads, Inside, satisfies_still, value_agrees, env_agrees, told_agrees, own, own_agrees, own_at, own_first, tells_still}
 use Rattle.surf_graph.proofs.StartInside.{Outside, outside_part, outside_other, outside_start, outside_with, outside_local, start_inside, emitted_reads}
@@ -686,8 +686,8 @@ start_shows tables f w (Local s v0 p) c o out src l z on free h =
     let e3 : v (n + 3) ≡ of_bool (to_nat (v a.status) == 2) = one.own 3 (omega arith) ∙ sym (ap (λ x. of_bool (to_nat x == 2)) ta.status ∙ ap of_bool (next_one i.code)) in
     let e4 : v (n + 4) ≡ of_bool (is_on v c.keep && is_on v (n + 3)) = one.own 4 (omega arith) ∙ sym (ap₂ (λ x y. of_bool (x && y)) keep_v pauses) in
     let e5 : v (n + 5) ≡ of_bool (is_on v c.keep && is_on v c.hold) = one.own 5 (omega arith) ∙ sym (ap₂ (λ x y. of_bool (x && y)) keep_v (at n c.hold w v (is_on w c.hold) g out.hold refl)) in
-    let solves : Satisfies f v (start tables (Local s v0 p) c).equations = (e0, (e1, (one.own 2 (omega arith), (e3, (e4, (e5, satisfies_append f v fold.equations a.equations y.solves ha)))))) in
-    let ls = local_equations tables f v s (Const v0) c a zv solves y.solves in
+    let solves : Satisfies f v (start tables (Local s v0 p) c).equations = (e0, (e1, (one.own 2 (omega arith) ∙ src.0 ∙ sym (first_is f v (signal_at tables s).kind), (e3, (e4, (e5, satisfies_append f v fold.equations a.equations y.solves ha)))))) in
+    let ls = local_equations tables f v s (first_formula (signal_at tables s).kind) c a zv solves y.solves in
     let ticks_v : Ticks tables last p (told_env v d0.wires) vars i =
     subst (λ x. Ticks tables last p x vars i)
     (sym (told_local v c.wires s n (n + 1) ∙ ap₂ (λ x y. put_at (told_env v c.wires) s (record { present = x; value = y })) (ap is_true one.first ∙ truth_of b) (one.own 1 (omega arith))

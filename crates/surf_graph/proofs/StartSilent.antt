@@ -16,7 +16,7 @@ use Rattle.java_values.specs.Arithmetic.{of_bool}
 use Rattle.std.specs.Int.{int_max}
 use Rattle.surf_graph.specs.definitions.Formulas.{Value, Holds, Const, Equation, Satisfies, to_nat, is_on, of_trap, told, told_env}
 use Rattle.surf_graph.specs.definitions.Copies.{fold_info, Copy, Context, below, from, behind, nothing_built, plain_copy, starting_if, other_context, joins, both_write, start_context, part_context, choice_own, turn_own, branch_context, second_branch, weak_context, tested_context, tested_copy, local_context, fold_emits}
-use Rattle.surf_graph.specs.definitions.StartingCopies.{writes0, start}
+use Rattle.surf_graph.specs.definitions.StartingCopies.{first_formula, writes0, start}
 use Rattle.surf_graph.specs.definitions.Tells.{AllOff, Quiet, Silent}
 use Rattle.surf_graph.proofs.SetValues.{truth_of, satisfies_front, satisfies_back, off_joined, off_below, off_from, off_none}
 use Rattle.surf_graph.proofs.Parts.{quiet_behind}
@@ -166,7 +166,7 @@ start_silent tables f w (Local s v p) c z h off free =
     let a = start tables p (local_context tables s c) in
     let fold = fold_emits (fold_info tables s) s a.next 0 (c.next + 2) a.emits in
     let r = h.1.1.1.1.1.1 in
-    let says = local_equations tables f w s (Const v) c a z h (satisfies_front f w fold.equations a.equations r) in
+    let says = local_equations tables f w s (first_formula (signal_at tables s).kind) c a z h (satisfies_front f w fold.equations a.equations r) in
     local_silent tables (told w c.wires.variables) w s c a _ _ says free (start_silent tables f w p (local_context tables s c) z (satisfies_back f w fold.equations a.equations r) off free)
 start_silent tables f w (Send ch e) c z h off free =
     let no = first_off w (c.next + 1) c.go c.keep h.1.0 off in

@@ -1,6 +1,7 @@
 -- Equations over wires, and the values that satisfy them.
 use Rattle.std.specs.Prelude.{◌≡◌, ℕ, zero, suc, ◌<◌, ◌==◌, ℤ, pos, negsuc, Bool, ◌&&◌, ◌||◌, not, cond, List, [], ◌∷◌}
 use Rattle.std.specs.Int.{int_max}
+use Rattle.java_values.specs.declared.kind.Kind.{Kind}
 use Rattle.java_values.specs.Arithmetic.{is_true}
 use Rattle.kernel_terms.specs.declared.tables.SignalInfo.{SignalInfo}
 use Rattle.kernel_terms.specs.TableEntries.{value_kind}
@@ -17,7 +18,7 @@ pub record Wires : Type 0 where
   pub value : ℕ → ℕ
   pub last : ℕ → ℕ
 
--- What gives a wire its value. `Same`, `AndNot` and those from `StatusOf` on stand for several operations.
+-- What gives a wire its value. `Same`, `AndNot` and those from `Zero` on stand for several operations.
 -- `IsStatus` tells whether a status is that of this code.
 pub data Formula : Type 0 where
   Const : (n : ℤ) → Formula
@@ -27,6 +28,7 @@ pub data Formula : Type 0 where
   AndNot : (a b : ℕ) → Formula
   Or : (a b : ℕ) → Formula
   Choose : (c a b : ℕ) → Formula
+  Zero : (k : Kind) → Formula
   StatusOf : (code : ℕ) → Formula
   Status : (go code : ℕ) → Formula
   IsStatus : (a code : ℕ) → Formula
@@ -82,6 +84,7 @@ formula_value f w (And a b) = of_bool (is_on w a && is_on w b)
 formula_value f w (AndNot a b) = of_bool (is_on w a && not (is_on w b))
 formula_value f w (Or a b) = of_bool (is_on w a || is_on w b)
 formula_value f w (Choose c a b) = cond (is_on w c) (w a) (w b)
+formula_value f w (Zero k) = pos 0
 formula_value f w (StatusOf code) = pos (status_of code)
 formula_value f w (Status go code) = cond (is_on w go) (pos (status_of code)) (pos 0)
 formula_value f w (IsStatus a code) = of_bool (to_nat (w a) == status_of code)
@@ -114,6 +117,7 @@ Reads limit (And a b) = (a < limit) × (b < limit)
 Reads limit (AndNot a b) = (a < limit) × (b < limit)
 Reads limit (Or a b) = (a < limit) × (b < limit)
 Reads limit (Choose c a b) = (c < limit) × (a < limit) × (b < limit)
+Reads limit (Zero k) = Unit {0}
 Reads limit (StatusOf code) = Unit {0}
 Reads limit (Status go code) = go < limit
 Reads limit (IsStatus a code) = a < limit

@@ -13,7 +13,7 @@ use Rattle.kernel_terms.specs.declared.tables.Combine.TheVariants as combine
 use Rattle.kernel_terms.specs.TableEntries.{value_kind}
 use Rattle.kernel_terms.specs.Expressions.{Expression, Literal, Variable, SignalValue, ChannelValue, Unary, Binary, Cast, kind_of, Test, IsPresent, Not, Both, Either}
 use Rattle.kernel_rules.specs.definitions.TickRule.{ended_code, paused_code, exit_code}
-use Rattle.surf_graph.specs.definitions.Formulas.{Wires, Formula, Const, Get, Same, And, AndNot, Or, Choose, StatusOf, Status, IsStatus, Greater, OfTrap, OfWeakAbort, Value, Holds, Equation, status_of}
+use Rattle.surf_graph.specs.definitions.Formulas.{Wires, Formula, Const, Get, Same, And, AndNot, Or, Choose, Zero, StatusOf, Status, IsStatus, Greater, OfTrap, OfWeakAbort, Value, Holds, Equation, status_of}
 use Rattle.surf_graph.specs.definitions.Formulas as formula
 use Rattle.wire_code.specs.declared.formula.Formula.{Formula as Operation}
 use Rattle.wire_code.specs.declared.formula.Formula.TheVariants as wire
@@ -170,6 +170,11 @@ spelled n (AndNot a b) = record {
 }
 spelled n (Or a b) = single n (wire.Or a b)
 spelled n (Choose c a b) = single n (wire.Choose c a b)
+spelled n (Zero k) = record {
+  equations = gives n (wire.Const (pos 0)) ∷ [];
+  operation = wire.Cast k k n;
+  next = n + 1;
+}
 spelled n (StatusOf code) = record {
   equations = gives n (wire.Const (pos (status_of code))) ∷ [];
   operation = as_int n;

@@ -1,11 +1,13 @@
 -- The copy of a starting tick.
-use Rattle.std.specs.Prelude.{ℕ, ◌+◌, ◌==◌, true, false, cond, List, [], ◌∷◌, ◌++◌}
+use Rattle.std.specs.Prelude.{ℕ, ◌+◌, ◌==◌, pos, true, false, cond, List, [], ◌∷◌, ◌++◌, Option, Some, None}
+use Rattle.java_values.specs.declared.kind.Kind.{Kind}
 use Rattle.kernel_terms.specs.declared.tables.Tables.{Tables}
+use Rattle.kernel_terms.specs.TableEntries.{signal_at}
 use Rattle.kernel_terms.specs.Statements.{Stmt, Nothing, Pause, Emit, Assign, If, Present, Seq, Loop, Par, Trap, Exit, Abort, Suspend, Local, Send, Receive, SendWaits, Sent, ReceiveWaits, Received}
 use Rattle.kernel_terms.specs.MayEnd.{ends0}
 use Rattle.kernel_rules.specs.definitions.Signals.{put_at}
 use Rattle.kernel_rules.specs.definitions.Registers.{registers}
-use Rattle.surf_graph.specs.definitions.Formulas.{Formula, Const, And, Choose, Status, Value, Holds}
+use Rattle.surf_graph.specs.definitions.Formulas.{Formula, Const, And, Choose, Zero, Status, Value, Holds}
 use Rattle.surf_graph.specs.definitions.Copies.{Context, Copy, below, from, nothing_built, behind, alternatives, emitted_value, local_context, local_copy, branch_context, second_branch, beside, of_trap_copy, weak_context, weak_copy, tested_context, tested_copy, plain_copy, starting_if, other_context, start_context, part_context, choice_own, turn_own}
 use Rattle.kernel_rules.specs.definitions.TickRule.{ended_code, paused_code, exit_code}
 
@@ -39,6 +41,11 @@ chosen_copy tables p q condition c a b =
     let m = c.register + registers tables p in
     alternatives (writes0 p) (writes0 q) (n + 4) n 0 (below m a.sets) (from m b.sets)
     (choice_own condition c) a b
+
+-- the formula of what a local signal begins with, 0 of its kind
+abbrev pub first_formula : Option Kind → Formula
+first_formula None = Const (pos 0)
+first_formula (Some k) = Zero k
 
 -- the starting copy
 abbrev pub start : Tables → Stmt → Context → Copy
@@ -98,7 +105,8 @@ start tables (Abort false true t p) c =
     tested_copy t c.go ended_code c (start tables p (tested_context c))
 start tables (Suspend armed t p) c = start tables p c
 start tables (Local s v p) c =
-    local_copy tables s (Const v) c (start tables p (local_context tables s c))
+    local_copy tables s (first_formula (signal_at tables s).kind) c
+    (start tables p (local_context tables s c))
 start tables (Send ch e) c =
     let n = c.next in
     record (plain_copy paused_code c) {
