@@ -17,7 +17,7 @@ use Rattle.kernel_rules.proofs.StartingTicks.{ended_zero, starting_allows}
 use Rattle.surf_graph.proofs.Booleans.{left_of, or_left}
 use Rattle.java_values.specs.Arithmetic.{of_bool}
 use Rattle.std.specs.Int.{int_max}
-use Rattle.surf_graph.specs.definitions.Formulas.{Wires, Value, Holds, Const, Equation, Satisfies, formula_value, to_nat, is_on, told, told_env, readings}
+use Rattle.surf_graph.specs.definitions.Formulas.{Wires, Value, Holds, Equation, Satisfies, formula_value, to_nat, is_on, told, told_env, readings}
 use Rattle.surf_graph.specs.definitions.Copies.{fold_info, Copy, Context, Sets, below, from, joined, behind, plain_copy, starting_if, other_context, has, joins, both_write, alternatives, start_context, part_context, choice_own, turn_own, branch_context, second_branch, weak_context, tested_context, local_context, fold_emits, emitted_value}
 use Rattle.surf_graph.specs.definitions.StartingCopies.{first_formula, writes0, start}
 use Rattle.surf_graph.specs.definitions.Tells.{emitted, Off, AllOff, Stands, Tells, Active, Silent, PureZero, registers_set, set_value}

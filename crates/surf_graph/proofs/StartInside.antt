@@ -10,7 +10,7 @@ use Rattle.kernel_rules.specs.definitions.Signals.{put_at}
 use Rattle.kernel_rules.specs.definitions.TickRule.{writes}
 use Rattle.kernel_rules.specs.definitions.Registers.{registers}
 pub use Rattle.surf_graph.specs.definitions.Shows.{Outside}
-use Rattle.surf_graph.specs.definitions.Formulas.{Wires, Formula, Const, Value, Holds, Equation}
+use Rattle.surf_graph.specs.definitions.Formulas.{Wires, Formula, Value, Holds, Equation}
 use Rattle.surf_graph.specs.definitions.Copies.{fold_info, Copy, Context, Emits, Sets, below, from, joined, none, behind, nothing_built, plain_copy, starting_if, next_context, other_context, has, both_write, joins, join_wires, wires_by, alternatives, start_context, part_context, choice_own, turn_own, branch_context, second_branch, beside, of_trap_copy, weak_context, weak_copy, tested_context, tested_copy, local_context, local_copy, own_registers, Folded, fold_step, fold_emits, emits_without, emitted_value}
 use Rattle.surf_graph.specs.definitions.StartingCopies.{first_formula, writes0, start}
 use Rattle.surf_graph.proofs.Locals.{first_reads}

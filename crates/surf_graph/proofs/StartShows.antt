@@ -15,7 +15,7 @@ use Rattle.kernel_rules.proofs.StartingTicks.{ended_zero, starting_allows}
 use Rattle.surf_graph.proofs.Booleans.{or_left}
 use Rattle.java_values.specs.Arithmetic.{of_bool}
 use Rattle.std.specs.Int.{int_max}
-use Rattle.surf_graph.specs.definitions.Formulas.{Wires, Formula, Value, Holds, Const, Satisfies, formula_value, to_nat, is_on, of_trap, of_weak_abort, told, told_env, readings}
+use Rattle.surf_graph.specs.definitions.Formulas.{Wires, Formula, Value, Holds, Satisfies, formula_value, to_nat, is_on, of_trap, of_weak_abort, told, told_env, readings}
 use Rattle.surf_graph.specs.definitions.Copies.{fold_info, Copy, Context, below, from, joined, starting_if, other_context, joins, both_write, alternatives, start_context, part_context, choice_own, turn_own, branch_context, second_branch, weak_context, weak_copy, tested_context, tested_copy, local_context, fold_emits, emitted_value}
 use Rattle.surf_graph.specs.definitions.StartingCopies.{first_formula, writes0, start}
 use Rattle.surf_graph.specs.definitions.Tells.{Tells, Active, Stands, registers_set}

@@ -14,7 +14,7 @@ use Rattle.kernel_rules.specs.definitions.Expressions.{holds}
 use Rattle.kernel_rules.specs.definitions.Registers.{registers}
 use Rattle.java_values.specs.Arithmetic.{of_bool}
 use Rattle.std.specs.Int.{int_max}
-use Rattle.surf_graph.specs.definitions.Formulas.{Value, Holds, Const, Equation, Satisfies, to_nat, is_on, of_trap, told, told_env}
+use Rattle.surf_graph.specs.definitions.Formulas.{Value, Holds, Equation, Satisfies, to_nat, is_on, of_trap, told, told_env}
 use Rattle.surf_graph.specs.definitions.Copies.{fold_info, Copy, Context, below, from, behind, nothing_built, plain_copy, starting_if, other_context, joins, both_write, start_context, part_context, choice_own, turn_own, branch_context, second_branch, weak_context, tested_context, tested_copy, local_context, fold_emits}
 use Rattle.surf_graph.specs.definitions.StartingCopies.{first_formula, writes0, start}
 use Rattle.surf_graph.specs.definitions.Tells.{AllOff, Quiet, Silent}
