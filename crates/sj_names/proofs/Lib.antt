@@ -19,3 +19,4 @@ pub mod FitValues
 pub mod FitParts
 pub mod FitForms
 pub mod FitTrees
+pub mod TrapLemmas

@@ -7,3 +7,4 @@ pub mod Bindings
 pub mod SoundTables
 pub mod FittingTrees
 pub mod ReadNames
+pub mod NestedTraps

@@ -1,5 +1,8 @@
-ghost use Rattle.std.specs.Prelude.{◌≡◌, true};
+ghost use Rattle.std.specs.Prelude.{◌≡◌, ◌≤◌, true, length};
+ghost use Rattle.kernel_terms.specs.Limits.{most_traps};
 ghost use Rattle.sj_names.specs.definitions.FittingTrees.{fits_tree, entry_rules};
+ghost use Rattle.sj_names.specs.definitions.NestedTraps.{traps_nest};
+ghost use Rattle.sj_names.specs.definitions.SoundTables.{AreSoundTables};
 
 use crate::entry::Entry;
 use crate::failure::Failure;
@@ -9,12 +12,16 @@ use sj_ast::{Raw, Tree};
 use thiserror::Error;
 
 /// A tree with numbers in place of names, in expressions with entries, and the tables of them. Each number names an entry
-/// of the tables that may be used where it stands.
+/// of the tables that may be used where it stands. The tables keep what is asked of names, limits and entries, there is a
+/// domain, and traps nest at most 64 deep.
 #[derive(Debug, Drop)]
 pub struct Bound {
     pub tree: Tree<u32, Raw<Entry>>,
     pub tables: Tables,
     ghost fitting: { fits_tree tables (entry_rules tables) tree ≡ true },
+    ghost sound: { AreSoundTables tables (length tree.domains) },
+    ghost some: { 1 ≤ length tree.domains },
+    ghost traps: { traps_nest most_traps tree ≡ true },
 }
 
 /// Why a tree isn't bound.

@@ -1,11 +1,11 @@
 -- What is promised of the tables of a tree whose names have no failure, and of what its names stand for.
-use Rattle.std.specs.Prelude.{ℕ, suc, Bool, true, false, ◌&&◌, not, cond, nat_lt, List, [], ◌∷◌, length, Option, Some, None}
+use Rattle.std.specs.Prelude.{◌≡◌, ℕ, suc, Bool, true, false, ◌&&◌, not, cond, nat_lt, List, [], ◌∷◌, length, Option, Some, None}
 use Rattle.std.specs.List.{list_all}
 use Rattle.kernel_terms.specs.declared.tables.SignalInfo.{SignalInfo}
 use Rattle.kernel_terms.specs.declared.tables.Tables.{Tables}
 use Rattle.kernel_terms.specs.TableEntries as entries
 use Rattle.kernel_terms.specs.TableEntries.{signal_at, is_interface_of}
-use Rattle.kernel_terms.specs.WellFormed.{is_local_of, is_variable_of, is_sender_of, is_receiver_of}
+use Rattle.kernel_terms.specs.WellFormed.{has_names, is_within_limits, interface_comes_first, is_channel_entry, is_variable_entry, is_local_of, is_variable_of, is_sender_of, is_receiver_of}
 use Rattle.sj_ast.specs.declared.name.Name.{Name}
 use Rattle.sj_ast.specs.declared.port.Port.{Port}
 use Rattle.sj_ast.specs.declared.port.Port.TheVariants as port
@@ -24,6 +24,16 @@ port_name (port.Channel c) = c.name.text
 -- the signal belongs to a domain that there is
 abbrev pub has_domain : ℕ → SignalInfo → Bool
 has_domain domains s = nat_lt s.domain domains
+
+-- Tables of so many domains: interface signals and channels have distinct names, the limits hold, each entry belongs to
+-- domains that there are, those of a channel differ, and interface signals come before local ones.
+pub record AreSoundTables (t : Tables) (domains : ℕ) : Type 0 where
+  pub names : has_names t ≡ true
+  pub limits : is_within_limits t domains ≡ true
+  pub signals : list_all (has_domain domains) t.signals ≡ true
+  pub order : interface_comes_first t.signals ≡ true
+  pub channels : list_all (is_channel_entry domains) t.channels ≡ true
+  pub variables : list_all (is_variable_entry domains) t.variables ≡ true
 
 -- an interface signal that belongs to the domain
 abbrev pub is_port_of : Tables → ℕ → ℕ → Bool
