@@ -23,8 +23,8 @@ use Rattle.sj_ast.specs.declared.expression.Raw as raw
 use Rattle.sj_ast.specs.declared.expression.Raw.{Raw}
 use Rattle.sj_ast.specs.declared.expression.Raw.TheOpen.{Raw-F}
 use Rattle.sj_ast.specs.declared.expression.Raw.TheFolds.{fold-roll-Raw, ind-Raw}
-use Rattle.sj_names.specs.declared.entry.Entry.{Entry}
-use Rattle.sj_names.specs.declared.entry.Entry.TheVariants as entry
+use Rattle.sj_names.specs.declared.entry.TableEntry.{TableEntry}
+use Rattle.sj_names.specs.declared.entry.TableEntry.TheVariants as entry
 use Rattle.sj_names.specs.definitions.FittingTrees.{is_entry, fits_raw_layer, uses_entries}
 use Rattle.java_types.specs.declared.operand.Spelling.{Spelling}
 use Rattle.java_types.specs.declared.operand.Spelling.TheVariants as spelling
@@ -318,7 +318,7 @@ module _ (t : Tables) (scope : Scope) where
       made_keeps k (expr_form.Signal n) (SignalValue k n) (of_signal k n) refl
       (both_true (can_use t scope n) (is_of_kind (signal_at t n).kind k) h (ap (λ l. is_of_kind l k) i ∙ is_itself k)) refl
 
-  name_keeps : (first name_at : ℕ) (n : Entry) (o : Operand) → is_entry t scope n ≡ true → Gives (value_of_name first name_at (entry_expression t n)) o → KeepsAsSpelled o
+  name_keeps : (first name_at : ℕ) (n : TableEntry) (o : Operand) → is_entry t scope n ≡ true → Gives (value_of_name first name_at (entry_expression t n)) o → KeepsAsSpelled o
   name_keeps first at (entry.Signal n) o h g = split (signal_at t n).kind refl g
     where
       split : (k : Option Kind) → (signal_at t n).kind ≡ k → Gives (value_of_name first at (option_map (λ k. expr_of k (expr_form.Signal n)) k)) o → KeepsAsSpelled o
@@ -399,22 +399,22 @@ module _ (t : Tables) (scope : Scope) where
 
   -- whole expressions
 
-  abbrev IsSound : Raw Entry → Type 0
+  abbrev IsSound : Raw TableEntry → Type 0
   IsSound e = (o : Operand) → uses_entries t scope e ≡ true → Gives (checked_expression t e) o → KeepsAsSpelled o
 
   abbrev Proved : Type 0
-  Proved = (e : Raw Entry) × IsSound e
+  Proved = (e : Raw TableEntry) × IsSound e
 
-  abbrev uses_of : Raw-F Entry Proved → Raw-F Entry Bool
-  uses_of = raw.map-Raw Entry Proved Bool (λ e. uses_entries t scope e.0)
+  abbrev uses_of : Raw-F TableEntry Proved → Raw-F TableEntry Bool
+  uses_of = raw.map-Raw TableEntry Proved Bool (λ e. uses_entries t scope e.0)
 
-  abbrev checks_of : Raw-F Entry Proved → Raw-F Entry (Checked Operand)
-  checks_of = raw.map-Raw Entry Proved (Checked Operand) (λ e. checked_expression t e.0)
+  abbrev checks_of : Raw-F TableEntry Proved → Raw-F TableEntry (Checked Operand)
+  checks_of = raw.map-Raw TableEntry Proved (Checked Operand) (λ e. checked_expression t e.0)
 
-  abbrev plain_of : Raw-F Entry Proved → Raw-F Entry (Raw Entry)
-  plain_of = raw.map-Raw Entry Proved (Raw Entry) (λ e. e.0)
+  abbrev plain_of : Raw-F TableEntry Proved → Raw-F TableEntry (Raw TableEntry)
+  plain_of = raw.map-Raw TableEntry Proved (Raw TableEntry) (λ e. e.0)
 
-  step : (y : Raw-F Entry Proved) (o : Operand) → fits_raw_layer t scope (uses_of y) ≡ true → Gives (checked_layer t (checks_of y)) o → KeepsAsSpelled o
+  step : (y : Raw-F TableEntry Proved) (o : Operand) → fits_raw_layer t scope (uses_of y) ≡ true → Gives (checked_layer t (checks_of y)) o → KeepsAsSpelled o
   step (Raw-F.Literal at v) o h g =
       subst KeepsAsSpelled (sym (given_fine (literal at (literal_value v) (spelling.Literal (literal_value v))) o g)) (record { keeps = literal_keeps v; spelled = of_literal v.kind (literal_value v).number })
   step (Raw-F.Least at v) o h g =
@@ -435,31 +435,31 @@ module _ (t : Tables) (scope : Scope) where
       pair_keeps at op two.left two.right o (l.1 two.left (left_true (uses_entries t scope l.0) (uses_entries t scope r.0) h) two.first) (r.1 two.right (right_true (uses_entries t scope l.0) (uses_entries t scope r.0) h) two.second)
       (subst (λ x. Gives (binary_operand at op x) o) two.is made.second)
 
-  uses_rolled : (y : Raw-F Entry Proved) → uses_entries t scope (raw.roll-Raw Entry (plain_of y)) ≡ fits_raw_layer t scope (uses_of y)
-  uses_rolled (Raw-F.Literal at v) = fold-roll-Raw Entry Bool (fits_raw_layer t scope) (Raw-F.Literal at v)
-  uses_rolled (Raw-F.Least at v) = fold-roll-Raw Entry Bool (fits_raw_layer t scope) (Raw-F.Least at v)
-  uses_rolled (Raw-F.Variable at n) = fold-roll-Raw Entry Bool (fits_raw_layer t scope) (Raw-F.Variable at n)
-  uses_rolled (Raw-F.Status at name_at n) = fold-roll-Raw Entry Bool (fits_raw_layer t scope) (Raw-F.Status at name_at n)
-  uses_rolled (Raw-F.Unary at op e) = fold-roll-Raw Entry Bool (fits_raw_layer t scope) (Raw-F.Unary at op e.0)
-  uses_rolled (Raw-F.Cast at k e) = fold-roll-Raw Entry Bool (fits_raw_layer t scope) (Raw-F.Cast at k e.0)
-  uses_rolled (Raw-F.Group at e) = fold-roll-Raw Entry Bool (fits_raw_layer t scope) (Raw-F.Group at e.0)
-  uses_rolled (Raw-F.Binary at op l r) = fold-roll-Raw Entry Bool (fits_raw_layer t scope) (Raw-F.Binary at op l.0 r.0)
+  uses_rolled : (y : Raw-F TableEntry Proved) → uses_entries t scope (raw.roll-Raw TableEntry (plain_of y)) ≡ fits_raw_layer t scope (uses_of y)
+  uses_rolled (Raw-F.Literal at v) = fold-roll-Raw TableEntry Bool (fits_raw_layer t scope) (Raw-F.Literal at v)
+  uses_rolled (Raw-F.Least at v) = fold-roll-Raw TableEntry Bool (fits_raw_layer t scope) (Raw-F.Least at v)
+  uses_rolled (Raw-F.Variable at n) = fold-roll-Raw TableEntry Bool (fits_raw_layer t scope) (Raw-F.Variable at n)
+  uses_rolled (Raw-F.Status at name_at n) = fold-roll-Raw TableEntry Bool (fits_raw_layer t scope) (Raw-F.Status at name_at n)
+  uses_rolled (Raw-F.Unary at op e) = fold-roll-Raw TableEntry Bool (fits_raw_layer t scope) (Raw-F.Unary at op e.0)
+  uses_rolled (Raw-F.Cast at k e) = fold-roll-Raw TableEntry Bool (fits_raw_layer t scope) (Raw-F.Cast at k e.0)
+  uses_rolled (Raw-F.Group at e) = fold-roll-Raw TableEntry Bool (fits_raw_layer t scope) (Raw-F.Group at e.0)
+  uses_rolled (Raw-F.Binary at op l r) = fold-roll-Raw TableEntry Bool (fits_raw_layer t scope) (Raw-F.Binary at op l.0 r.0)
 
-  checks_rolled : (y : Raw-F Entry Proved) → checked_expression t (raw.roll-Raw Entry (plain_of y)) ≡ checked_layer t (checks_of y)
-  checks_rolled (Raw-F.Literal at v) = fold-roll-Raw Entry (Checked Operand) (checked_layer t) (Raw-F.Literal at v)
-  checks_rolled (Raw-F.Least at v) = fold-roll-Raw Entry (Checked Operand) (checked_layer t) (Raw-F.Least at v)
-  checks_rolled (Raw-F.Variable at n) = fold-roll-Raw Entry (Checked Operand) (checked_layer t) (Raw-F.Variable at n)
-  checks_rolled (Raw-F.Status at name_at n) = fold-roll-Raw Entry (Checked Operand) (checked_layer t) (Raw-F.Status at name_at n)
-  checks_rolled (Raw-F.Unary at op e) = fold-roll-Raw Entry (Checked Operand) (checked_layer t) (Raw-F.Unary at op e.0)
-  checks_rolled (Raw-F.Cast at k e) = fold-roll-Raw Entry (Checked Operand) (checked_layer t) (Raw-F.Cast at k e.0)
-  checks_rolled (Raw-F.Group at e) = fold-roll-Raw Entry (Checked Operand) (checked_layer t) (Raw-F.Group at e.0)
-  checks_rolled (Raw-F.Binary at op l r) = fold-roll-Raw Entry (Checked Operand) (checked_layer t) (Raw-F.Binary at op l.0 r.0)
+  checks_rolled : (y : Raw-F TableEntry Proved) → checked_expression t (raw.roll-Raw TableEntry (plain_of y)) ≡ checked_layer t (checks_of y)
+  checks_rolled (Raw-F.Literal at v) = fold-roll-Raw TableEntry (Checked Operand) (checked_layer t) (Raw-F.Literal at v)
+  checks_rolled (Raw-F.Least at v) = fold-roll-Raw TableEntry (Checked Operand) (checked_layer t) (Raw-F.Least at v)
+  checks_rolled (Raw-F.Variable at n) = fold-roll-Raw TableEntry (Checked Operand) (checked_layer t) (Raw-F.Variable at n)
+  checks_rolled (Raw-F.Status at name_at n) = fold-roll-Raw TableEntry (Checked Operand) (checked_layer t) (Raw-F.Status at name_at n)
+  checks_rolled (Raw-F.Unary at op e) = fold-roll-Raw TableEntry (Checked Operand) (checked_layer t) (Raw-F.Unary at op e.0)
+  checks_rolled (Raw-F.Cast at k e) = fold-roll-Raw TableEntry (Checked Operand) (checked_layer t) (Raw-F.Cast at k e.0)
+  checks_rolled (Raw-F.Group at e) = fold-roll-Raw TableEntry (Checked Operand) (checked_layer t) (Raw-F.Group at e.0)
+  checks_rolled (Raw-F.Binary at op l r) = fold-roll-Raw TableEntry (Checked Operand) (checked_layer t) (Raw-F.Binary at op l.0 r.0)
 
-  rolled : (y : Raw-F Entry Proved) → IsSound (raw.roll-Raw Entry (plain_of y))
+  rolled : (y : Raw-F TableEntry Proved) → IsSound (raw.roll-Raw TableEntry (plain_of y))
   rolled y o h g = step y o (sym (uses_rolled y) ∙ h) (subst (λ c. Gives c o) (checks_rolled y) g)
 
-  expression_keeps : (e : Raw Entry) → IsSound e
-  expression_keeps = ind-Raw Entry IsSound (λ x y is. subst (λ z. IsSound (raw.roll-Raw Entry z)) is (rolled y))
+  expression_keeps : (e : Raw TableEntry) → IsSound e
+  expression_keeps = ind-Raw TableEntry IsSound (λ x y is. subst (λ z. IsSound (raw.roll-Raw TableEntry z)) is (rolled y))
 
   -- what is given to something of a kind
 
@@ -519,13 +519,13 @@ module _ (t : Tables) (scope : Scope) where
       split true i j = subst (IsGiven k) (sym (given_fine (expr_of k (expr_form.Cast e)) x j)) (cast_given k e g i)
       split false i j = absurd (none_wrong (failure.Mismatch at) x j)
 
-  pub value_given : (k : Kind) (e : Raw Entry) (x : expr.Expr) → uses_entries t scope e ≡ true → Gives (value_for t k e) x → IsGiven k x
+  pub value_given : (k : Kind) (e : Raw TableEntry) (x : expr.Expr) → uses_entries t scope e ≡ true → Gives (value_for t k e) x → IsGiven k x
   value_given k e x h g = let made = given_then (checked_expression t e) (given k) x g in operand_given k made.part x (expression_keeps e made.part h made.first) made.second
 
-  pub condition_given : (e : Raw Entry) (x : expr.Expr) → uses_entries t scope e ≡ true → Gives (condition_of t e) x → IsGiven Boolean x
+  pub condition_given : (e : Raw TableEntry) (x : expr.Expr) → uses_entries t scope e ≡ true → Gives (condition_of t e) x → IsGiven Boolean x
   condition_given e x h g = let made = given_then (checked_expression t e) condition x g in operand_condition made.part x (expression_keeps e made.part h made.first) made.second
 
-  pub update_given : (n at : ℕ) (op : Op2) (e : Raw Entry) (x : expr.Expr) → is_variable_of t scope.domain n ≡ true → uses_entries t scope e ≡ true → Gives (update_of t n at op e) x → IsGiven (variable_at t n).kind x
+  pub update_given : (n at : ℕ) (op : Op2) (e : Raw TableEntry) (x : expr.Expr) → is_variable_of t scope.domain n ≡ true → uses_entries t scope e ≡ true → Gives (update_of t n at op e) x → IsGiven (variable_at t n).kind x
   update_given n at op e x v h g =
       let made = given_then (checked_expression t e) (updated (variable_at t n).kind n at op) x g in
       let new = given_then (binary at op (variable_of (variable_at t n).kind n) made.part) (cast_back at (variable_at t n).kind) x made.second in

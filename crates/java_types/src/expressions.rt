@@ -9,7 +9,7 @@ use crate::tables::entry_expression;
 use java_values::{Op2, Value};
 use kernel_terms::{Expr, ExprForm, Tables};
 use sj_ast::Raw;
-use sj_names::Entry;
+use sj_names::TableEntry;
 use std::alloc::Global;
 
 #[tactic(auto, using(crate::proofs::LiteralLemmas::literals))]
@@ -46,7 +46,7 @@ fn value_of_name(
     tables: &Tables,
     first: u32,
     name_at: u32,
-    entry: Entry,
+    entry: TableEntry,
 ) -> Result<Operand, TypeError>
     ensures { MatchResult result (λ o. value_of_name first name_at
         (entry_expression tables.now entry) ≡
@@ -86,7 +86,11 @@ fn binary_operand(alloc: Global, at: u32, op: Op2, operands: Operands) -> Result
 
 /// The expression with its kind, or the first thing that is wrong with it.
 #[tactic(auto, using(crate::proofs::CheckLemmas::pairs))]
-pub fn expression(alloc: Global, tables: &Tables, raw: &Raw<Entry>) -> Result<Operand, TypeError>
+pub fn expression(
+    alloc: Global,
+    tables: &Tables,
+    raw: &Raw<TableEntry>,
+) -> Result<Operand, TypeError>
     ensures { MatchResult result (λ o. checked_expression tables.now raw.now ≡
         fine o) (IsFirst (checked_expression tables.now raw.now)) }
 {

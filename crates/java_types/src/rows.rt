@@ -8,7 +8,7 @@ ghost use Rattle.kernel_terms.specs.declared.expr.ExprForm as expr_form;
 ghost use Rattle.kernel_terms.specs.declared.tables.Tables.{Tables};
 ghost use Rattle.sj_ast.specs.declared.expression.Raw.{Raw};
 ghost use Rattle.sj_ast.specs.declared.port.CombineOperator.TheVariants as operator;
-ghost use Rattle.sj_names.specs.declared.entry.Entry.{Entry};
+ghost use Rattle.sj_names.specs.declared.entry.TableEntry.{TableEntry};
 ghost use Rattle.java_types.specs.declared.operand.Spelling.TheVariants as spelling;
 ghost use Rattle.java_types.specs.declared.failure.TypeFailure.TheVariants as failure;
 ghost use Rattle.java_types.specs.definitions.Checks.{fine, wrong, then, first_of};
@@ -99,7 +99,7 @@ pub fn small_signals()
     ensures pure { (t : Tables) → emission t 9 None None ≡ fine None }
     ensures no_value { (t : Tables) →
         emission t 9 (Some kind.Int) None ≡ wrong (failure.Mismatch 9) }
-    ensures value_of_a_pure { (t : Tables) (e : Raw Entry) →
+    ensures value_of_a_pure { (t : Tables) (e : Raw TableEntry) →
         first_of (emission t 9 None (Some e)).failures ≡ Some (failure.Mismatch 9) }
     ensures boolean_sum { failures_with kind.Boolean operator.Add ≡ failure.Mismatch 9 ∷ [] }
     ensures boolean_max { failures_with kind.Boolean operator.Max ≡ failure.Mismatch 9 ∷ [] }

@@ -12,7 +12,7 @@ use crate::test_copies::copied;
 use java_values::{Kind, Op2};
 use kernel_terms::{Expr, Tables};
 use sj_ast::{Block, Form, Raw, Signal, Stmt};
-use sj_names::Entry;
+use sj_names::TableEntry;
 use sqlite_items::Items;
 use std::alloc::Global;
 
@@ -22,7 +22,7 @@ fn value_for(
     alloc: Global,
     tables: &Tables,
     kind: Kind,
-    value: &Raw<Entry>,
+    value: &Raw<TableEntry>,
 ) -> Result<Expr, TypeError>
     ensures { MatchResult result (λ e. value_for tables.now kind value.now ≡
         fine e) (IsFirst (value_for tables.now kind value.now)) }
@@ -32,7 +32,7 @@ fn value_for(
 }
 
 #[tactic(auto, using(crate::proofs::CheckLemmas::checks))]
-fn condition_of(alloc: Global, tables: &Tables, value: &Raw<Entry>) -> Result<Expr, TypeError>
+fn condition_of(alloc: Global, tables: &Tables, value: &Raw<TableEntry>) -> Result<Expr, TypeError>
     ensures { MatchResult result (λ e. condition_of tables.now value.now ≡
         fine e) (IsFirst (condition_of tables.now value.now)) }
 {
@@ -47,7 +47,7 @@ fn emission_of(
     tables: &Tables,
     name_at: u32,
     signal: u32,
-    value: &Option<Raw<Entry>>,
+    value: &Option<Raw<TableEntry>>,
 ) -> Result<Option<Expr>, TypeError>
     ensures { MatchResult result (λ o. emission_of tables.now name_at signal value.now ≡
         fine o) (IsFirst (emission_of tables.now name_at signal value.now)) }
@@ -72,7 +72,7 @@ fn update_of(
     variable: u32,
     sign_at: u32,
     op: Op2,
-    value: &Raw<Entry>,
+    value: &Raw<TableEntry>,
 ) -> Result<Expr, TypeError>
     ensures { MatchResult result (λ e. update_of tables.now variable sign_at op value.now ≡
         fine e) (IsFirst (update_of tables.now variable sign_at op value.now)) }
@@ -104,7 +104,7 @@ fn declaration(signal: &Signal<u32>) -> Result<Signal<u32>, TypeError>
 fn statement(
     alloc: Global,
     tables: &Tables,
-    statement: &Stmt<u32, Raw<Entry>>,
+    statement: &Stmt<u32, Raw<TableEntry>>,
 ) -> Result<Stmt<u32, Expr>, TypeError>
     ensures { MatchResult result (λ s. checked_stmt tables.now statement.now ≡
         fine s) (IsFirst (checked_stmt tables.now statement.now)) }
@@ -121,7 +121,7 @@ fn statement(
 fn form(
     alloc: Global,
     tables: &Tables,
-    form: &Form<u32, Raw<Entry>>,
+    form: &Form<u32, Raw<TableEntry>>,
 ) -> Result<Form<u32, Expr>, TypeError>
     ensures { MatchResult result (λ f. checked_form tables.now form.now ≡
         fine f) (IsFirst (checked_form tables.now form.now)) }
@@ -305,7 +305,7 @@ fn form(
 fn other_block(
     alloc: Global,
     tables: &Tables,
-    given: &Option<Block<u32, Raw<Entry>>>,
+    given: &Option<Block<u32, Raw<TableEntry>>>,
 ) -> Result<Option<Block<u32, Expr>>, TypeError>
     ensures { MatchResult result (λ o. checked_other tables.now given.now ≡
         fine o) (IsFirst (checked_other tables.now given.now)) }
@@ -321,7 +321,7 @@ fn other_block(
 pub fn blocks(
     alloc: Global,
     tables: &Tables,
-    blocks: &[Block<u32, Raw<Entry>>],
+    blocks: &[Block<u32, Raw<TableEntry>>],
 ) -> Result<Items<Block<u32, Expr>>, TypeError>
     ensures { MatchResult result (λ bs. all_checked (map (checked_block tables.now) blocks.now) ≡
         fine bs) (IsFirst (all_checked (map (checked_block tables.now) blocks.now))) }
@@ -338,7 +338,7 @@ pub fn blocks(
 fn block(
     alloc: Global,
     tables: &Tables,
-    block: &Block<u32, Raw<Entry>>,
+    block: &Block<u32, Raw<TableEntry>>,
 ) -> Result<Block<u32, Expr>, TypeError>
     ensures { MatchResult result (λ b. checked_block tables.now block.now ≡
         fine b) (IsFirst (checked_block tables.now block.now)) }
@@ -355,7 +355,7 @@ fn block(
 fn statements(
     alloc: Global,
     tables: &Tables,
-    statements: &[Stmt<u32, Raw<Entry>>],
+    statements: &[Stmt<u32, Raw<TableEntry>>],
 ) -> Result<Items<Stmt<u32, Expr>>, TypeError>
     ensures { MatchResult result (λ ss. all_checked (map (checked_stmt tables.now) statements.now) ≡
         fine ss) (IsFirst (all_checked (map (checked_stmt tables.now) statements.now))) }

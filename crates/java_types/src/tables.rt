@@ -4,7 +4,7 @@ ghost use Rattle.java_types.specs.definitions.Operands.{entry_expression};
 
 use java_values::Kind;
 use kernel_terms::{Expr, ExprForm, Tables};
-use sj_names::Entry;
+use sj_names::TableEntry;
 
 /// The kind of the signal of this number; none where it is pure.
 #[tactic(auto, using(crate::proofs::EntryLemmas::entries))]
@@ -40,22 +40,22 @@ pub fn variable_kind(tables: &Tables, variable: u32) -> Kind
 }
 
 /// The value of an entry; none for a pure signal.
-pub fn entry_expression(tables: &Tables, entry: Entry) -> Option<Expr>
+pub fn entry_expression(tables: &Tables, entry: TableEntry) -> Option<Expr>
     ensures { result ≡ entry_expression tables.now entry }
 {
     match entry {
-        Entry::Signal(signal) => {
+        TableEntry::Signal(signal) => {
             let kind = signal_kind(tables, signal)?;
             Some(Expr {
                 kind,
                 form: ExprForm::Signal(signal),
             })
         }
-        Entry::Channel(channel) => Some(Expr {
+        TableEntry::Channel(channel) => Some(Expr {
             kind: channel_kind(tables, channel),
             form: ExprForm::Channel(channel),
         }),
-        Entry::Variable(variable) => Some(Expr {
+        TableEntry::Variable(variable) => Some(Expr {
             kind: variable_kind(tables, variable),
             form: ExprForm::Variable(variable),
         }),

@@ -10,14 +10,14 @@ use crate::table_copies::copied_tables;
 use crate::trees::Typed;
 use kernel_terms::{Expr, Tables};
 use sj_ast::{Raw, Tree};
-use sj_names::{Bound, Entry};
+use sj_names::{Bound, TableEntry};
 use std::alloc::Global;
 
 #[tactic(auto, using(crate::proofs::CheckLemmas::checks))]
 fn typed_tree(
     alloc: Global,
     tables: &Tables,
-    tree: &Tree<u32, Raw<Entry>>,
+    tree: &Tree<u32, Raw<TableEntry>>,
 ) -> Result<Tree<u32, Expr>, TypeError>
     ensures { MatchResult result (λ t. checked_tree tables.now tree.now ≡
         fine t) (IsFirst (checked_tree tables.now tree.now)) }

@@ -3,8 +3,8 @@ use Rattle.std.proofs.Common.{◌≡◌, ℕ, zero, suc, ◌==◌, Bool, true, f
 use Rattle.std.specs.List.{list_any}
 use Rattle.std.proofs.lemmas.Bool.Decides.{nat_tests}
 use Rattle.sj_names.specs.declared.failure.Failure.{Failure}
-use Rattle.sj_names.specs.declared.failure.Fault.{Fault}
-use Rattle.sj_names.specs.declared.failure.Fault.TheVariants as fault
+use Rattle.sj_names.specs.declared.failure.FailureKind.{FailureKind}
+use Rattle.sj_names.specs.declared.failure.FailureKind.TheVariants as fault
 use Rattle.sj_names.specs.definitions.Failures.{rank, is_before, IsOneOf, IsLeast}
 
 -- of two numbers each, the first decides, and then the second
@@ -18,7 +18,7 @@ same_second : (a x b y : ℕ) → is_less a x b y ≡ false → is_less b y a x 
 same_second a x b y h k = grind (arith, nat_tests)
 
 -- the kind of a rank
-kind_at : ℕ → Fault
+kind_at : ℕ → FailureKind
 kind_at zero = fault.Unknown
 kind_at (suc zero) = fault.Twice
 kind_at (suc (suc zero)) = fault.SignalShared
@@ -26,7 +26,7 @@ kind_at (suc (suc (suc zero))) = fault.EmitInput
 kind_at (suc (suc (suc (suc zero)))) = fault.ChannelEnds
 kind_at (suc (suc (suc (suc (suc n))))) = fault.TooMany
 
-kind_of_rank : (f : Fault) → kind_at (rank f) ≡ f
+kind_of_rank : (f : FailureKind) → kind_at (rank f) ≡ f
 unfolding kind_at
 kind_of_rank fault.Unknown = refl
 kind_of_rank fault.Twice = refl
@@ -35,7 +35,7 @@ kind_of_rank fault.EmitInput = refl
 kind_of_rank fault.ChannelEnds = refl
 kind_of_rank fault.TooMany = refl
 
-same_kind : (f g : Fault) → rank f ≡ rank g → f ≡ g
+same_kind : (f g : FailureKind) → rank f ≡ rank g → f ≡ g
 same_kind f g h = sym (kind_of_rank f) ∙ ap kind_at h ∙ kind_of_rank g
 
 same_failure : (f g : Failure) → is_before f g ≡ false → is_before g f ≡ false → f ≡ g

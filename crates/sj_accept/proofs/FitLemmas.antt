@@ -10,17 +10,17 @@ use Rattle.sj_ast.specs.declared.statement.Block as block
 use Rattle.sj_ast.specs.declared.statement.Form.TheOpen.{Form-F}
 use Rattle.sj_ast.specs.declared.statement.Form.TheFolds.{fold-roll-Form, fold_out-Block, fold_out-Stmt}
 use Rattle.sj_ast.specs.declared.statement.Form.TheVariants.{rolls-Empty, rolls-Pause, rolls-Emit, rolls-While, rolls-Send, rolls-Receive}
-use Rattle.sj_names.specs.definitions.FittingTrees.{Around, scope_of, Fitted, Part, ValueRules, alone, stmts_fit, form_fits, block_fits, stmt_fits, fits_form, fits_block, fits_stmt}
+use Rattle.sj_names.specs.definitions.FittingTrees.{Around, term_scope, Fitted, FittingPart, ValueRules, alone, stmts_fit, fits_form_layer, fits_block_layer, fits_stmt_layer, fits_form, fits_block, fits_stmt}
 use Rattle.java_types.specs.definitions.TypedTrees.{TypedForm, TypedStmt, TypedBlock}
 
 module _ (t : Tables) (rules : ValueRules Expr) (s : TypedStmt) (a : Around) where
   layer : (y : Form-F ℕ Expr TypedForm TypedBlock TypedStmt) → s.form ≡ form.roll-Form ℕ Expr y
-      → fits_stmt t rules s a ≡ form_fits t rules (form.map-Form ℕ Expr TypedForm TypedBlock TypedStmt Part Part Part (fits_form t rules) (fits_block t rules) (fits_stmt t rules) y) a
+      → fits_stmt t rules s a ≡ fits_form_layer t rules (form.map-Form ℕ Expr TypedForm TypedBlock TypedStmt FittingPart FittingPart FittingPart (fits_form t rules) (fits_block t rules) (fits_stmt t rules) y) a
   layer y h =
-      ap (λ (p : Part). p a)
-      (fold_out-Stmt ℕ Expr Part Part Part (form_fits t rules) (block_fits t rules) (stmt_fits t rules) s
+      ap (λ (p : FittingPart). p a)
+      (fold_out-Stmt ℕ Expr FittingPart FittingPart FittingPart (fits_form_layer t rules) (fits_block_layer t rules) (fits_stmt_layer t rules) s
       ∙ ap (fits_form t rules) h
-      ∙ fold-roll-Form ℕ Expr Part Part Part (form_fits t rules) (block_fits t rules) (stmt_fits t rules) y)
+      ∙ fold-roll-Form ℕ Expr FittingPart FittingPart FittingPart (fits_form_layer t rules) (fits_block_layer t rules) (fits_stmt_layer t rules) y)
 
   pub fits-Empty : s.form ≡ form.Empty → fits_stmt t rules s a ≡ alone true a
   fits-Empty h = layer Form-F.Empty (h ∙ sym rolls-Empty)
@@ -28,10 +28,10 @@ module _ (t : Tables) (rules : ValueRules Expr) (s : TypedStmt) (a : Around) whe
   pub fits-Pause : s.form ≡ form.Pause → fits_stmt t rules s a ≡ alone true a
   fits-Pause h = layer Form-F.Pause (h ∙ sym rolls-Pause)
 
-  pub fits-Emit : (at n : ℕ) → s.form ≡ form.Emit at n None → fits_stmt t rules s a ≡ alone (can_emit t (scope_of a) n && rules.emitted (scope_of a) (signal_at t n).kind None) a
+  pub fits-Emit : (at n : ℕ) → s.form ≡ form.Emit at n None → fits_stmt t rules s a ≡ alone (can_emit t (term_scope a) n && rules.emitted (term_scope a) (signal_at t n).kind None) a
   fits-Emit at n h = layer (Form-F.Emit at n None) (h ∙ sym (rolls-Emit at n None))
 
-  pub fits-Send : (at c : ℕ) (e : Expr) → s.form ≡ form.Send at c e → fits_stmt t rules s a ≡ alone (is_sender_of t a.domain c && rules.given (scope_of a) (channel_at t c).kind e) a
+  pub fits-Send : (at c : ℕ) (e : Expr) → s.form ≡ form.Send at c e → fits_stmt t rules s a ≡ alone (is_sender_of t a.domain c && rules.given (term_scope a) (channel_at t c).kind e) a
   fits-Send at c e h = layer (Form-F.Send at c e) (h ∙ sym (rolls-Send at c e))
 
   pub fits-Receive : (at c : ℕ) → s.form ≡ form.Receive at c → fits_stmt t rules s a ≡ alone (is_receiver_of t a.domain c) a
@@ -42,4 +42,4 @@ module _ (t : Tables) (rules : ValueRules Expr) (s : TypedStmt) (a : Around) whe
 
 pub fits-Block : (t : Tables) (rules : ValueRules Expr) (b : TypedBlock) (a : Around)
     → fits_block t rules b a ≡ alone (stmts_fit (map (fits_stmt t rules) (block.out-Block ℕ Expr b).statements) a) a
-fits-Block t rules b a = ap (λ (p : Part). p a) (fold_out-Block ℕ Expr Part Part Part (form_fits t rules) (block_fits t rules) (stmt_fits t rules) b)
+fits-Block t rules b a = ap (λ (p : FittingPart). p a) (fold_out-Block ℕ Expr FittingPart FittingPart FittingPart (fits_form_layer t rules) (fits_block_layer t rules) (fits_stmt_layer t rules) b)

@@ -13,7 +13,7 @@ use Rattle.kernel_terms.specs.Statements.{Stmt, Nothing, Pause, Emit, Seq, Loop,
 use Rattle.tick_tree.specs.definitions.Weight.{weight_of}
 use Rattle.sj_ast.specs.declared.name.Name.{Name}
 use Rattle.sj_grammar.specs.definitions.Trees.{tree_of}
-use Rattle.sj_names.specs.definitions.Mentions.{Part}
+use Rattle.sj_names.specs.definitions.Mentions.{NamedPart}
 use Rattle.sj_names.specs.definitions.DeclaredTables.{tables_of_tree}
 use Rattle.sj_accept.specs.definitions.Sources.{SourceTree, IsParsed}
 use Rattle.sj_accept.specs.definitions.BuiltTables.{tables_are_built}
@@ -31,7 +31,7 @@ record KeepsAll (ps : List Stmt) : Type 0 where
   loops : (d : ℕ) → LoopsWait (get_or ps d Nothing)
   weight : (d : ℕ) → weight_of (get_or ps d Nothing) ≤ 100000
 
-source_of : (bytes : List ℕ) (p : LoweredProgram) (ps : List Stmt) (tree : SourceTree) (parts : List Part) → length bytes ≤ 1048576 → IsParsed bytes tree → BlocksTell tree.domains parts → failures_with tree parts ≡ [] → tables_with tree parts ≡ p.tables
+source_of : (bytes : List ℕ) (p : LoweredProgram) (ps : List Stmt) (tree : SourceTree) (parts : List NamedPart) → length bytes ≤ 1048576 → IsParsed bytes tree → BlocksTell tree.domains parts → failures_with tree parts ≡ [] → tables_with tree parts ≡ p.tables
     → FitTree tree (Some p.terms) → tables_are_built p.tables ≡ true → domain_statements p ≡ ps → KeepsAll ps → IsSourceOf bytes p
 source_of bytes p ps tree parts size parsed tells none tables fit built statements keeps = record {
   size = size;

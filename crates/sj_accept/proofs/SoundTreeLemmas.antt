@@ -11,7 +11,7 @@ use Rattle.sj_ast.specs.declared.name.Name.{Name}
 use Rattle.sj_ast.specs.declared.statement.Block.{Block}
 use Rattle.sj_ast.specs.declared.statement.Tree.{Tree}
 use Rattle.sj_names.specs.declared.binding.Bound.{Bound}
-use Rattle.sj_names.specs.declared.entry.Entry.{Entry}
+use Rattle.sj_names.specs.declared.entry.TableEntry.{TableEntry}
 use Rattle.sj_names.specs.definitions.Bindings.{IsBinding}
 use Rattle.sj_names.specs.definitions.DeclaredTables.{tables_of_tree}
 use Rattle.sj_names.specs.definitions.FittingTrees.{fits_tree, entry_rules}
@@ -49,7 +49,7 @@ numbered_count : (bs : List BlockPart) (s : Scope) → length (blocks_in_order b
 numbered_count [] s = refl
 numbered_count (b ∷ bs) s = ap suc (numbered_count bs (b s).scope)
 
-typed_count : (t : Tables) (n : Tree ℕ (Raw Entry)) (tree : Tree ℕ Expr) → (checked_tree t n).value ≡ Some tree → length tree.domains ≡ length n.domains
+typed_count : (t : Tables) (n : Tree ℕ (Raw TableEntry)) (tree : Tree ℕ Expr) → (checked_tree t n).value ≡ Some tree → length tree.domains ≡ length n.domains
 typed_count t n tree h =
     all_counted (map (checked_block t) n.domains) tree.domains (domains_of n.ports (all_checked (map (checked_block t) n.domains)).value tree h)
     ∙ length-map n.domains (checked_block t)
@@ -57,7 +57,7 @@ typed_count t n tree h =
 count : (tree : SourceTree) (bound : Bound) (typed : Typed) → IsBinding tree bound → IsTyping bound typed → length typed.tree.domains ≡ length tree.domains
 count tree bound typed b t =
     typed_count bound.tables bound.tree typed.tree (ap (λ (c : Checked _). c.value) t.tree)
-    ∙ ap (λ (n : Tree ℕ (Raw Entry)). length n.domains) b.numbered
+    ∙ ap (λ (n : Tree ℕ (Raw TableEntry)). length n.domains) b.numbered
     ∙ numbered_count (map numbered_block tree.domains) (numbered_ports tree.ports no_names).scope
     ∙ length-map tree.domains numbered_block
 

@@ -28,7 +28,7 @@ use Rattle.sj_ast.specs.declared.statement.Form.TheOpen.{Form-F}
 use Rattle.sj_ast.specs.declared.statement.Form.TheFolds.{fold-Form, fold-roll-Form, fold-roll-Block, fold_out-Stmt}
 use Rattle.sj_ast.specs.declared.statement.Form.TheVariants.{rolls-Pause, rolls-Halt, rolls-Emit, rolls-While, rolls-Send, rolls-Receive}
 use Rattle.sj_grammar.specs.definitions.Trees.{SourceForm, SourceStmt, SourceBlock}
-use Rattle.sj_names.specs.declared.entry.Entry.{Entry}
+use Rattle.sj_names.specs.declared.entry.TableEntry.{TableEntry}
 use Rattle.sj_names.specs.declared.mention.Role.TheVariants as role
 use Rattle.sj_names.specs.definitions.Scopes.{Scope, no_names, closed_at}
 use Rattle.sj_names.specs.definitions.NumberedTrees.{Numbered, NumberedForm, NumberedStmt, NumberedBlock, NumberedExpression, FormPart, BlockPart, StmtPart, number_of, numbered_raw_layer, numbered_expression, numbered_form_layer, numbered_block_layer, numbered_stmt_layer, numbered_form, numbered_block, numbered_stmt, stmts_in_order, blocks_in_order, numbered_ports}
@@ -62,10 +62,10 @@ abbrev block_at : ℕ → List SourceStmt → SourceBlock
 block_at at ss = block.roll-Block Name (Raw Name) (record { at = at; statements = ss })
 
 abbrev numbered_at : ℕ → NumberedForm → NumberedStmt
-numbered_at at f = stmt.roll-Stmt ℕ (Raw Entry) (record { at = at; form = f })
+numbered_at at f = stmt.roll-Stmt ℕ (Raw TableEntry) (record { at = at; form = f })
 
 abbrev numbered_block_at : ℕ → List NumberedStmt → NumberedBlock
-numbered_block_at at ss = block.roll-Block ℕ (Raw Entry) (record { at = at; statements = ss })
+numbered_block_at at ss = block.roll-Block ℕ (Raw TableEntry) (record { at = at; statements = ss })
 
 abbrev with_scope : {X : Type 0} → X → Scope → Numbered X
 with_scope x s = record { value = x; scope = s }
@@ -114,7 +114,7 @@ typed_at = kinds.stmt_at
 
 gives_at : (t : Tables) (at : ℕ) (g : NumberedForm) (f : TypedForm) → Gives (checked_form t g) f → Gives (checked_stmt t (numbered_at at g)) (typed_at at f)
 gives_at t at g f h =
-    fold_out-Stmt ℕ (Raw Entry) (Checked TypedForm) (Checked TypedBlock) (Checked TypedStmt) (form_layer t) block_layer stmt_layer (numbered_at at g) ∙ ap (map1 (kinds.stmt_at at)) h
+    fold_out-Stmt ℕ (Raw TableEntry) (Checked TypedForm) (Checked TypedBlock) (Checked TypedStmt) (form_layer t) block_layer stmt_layer (numbered_at at g) ∙ ap (map1 (kinds.stmt_at at)) h
 
 form_made : TypedForm → ℕ → Option Term
 form_made = fold-Form ℕ Expr (ℕ → Option Term) (Option Term) (Option Term) form_term lowering.block_layer lowering.stmt_layer
@@ -138,7 +138,7 @@ unfolding form_made
 pause_fits t s at ss ts r =
     of_form t at form.Pause s ss form.Pause form.Pause (form_term Form-F.Pause) (term_at at term_form.Pause) ts
     (ap (λ (p : FormPart). p s) (ap numbered_form (sym rolls-Pause) ∙ fold-roll-Form Name (Raw Name) FormPart BlockPart StmtPart numbered_form_layer numbered_block_layer numbered_stmt_layer Form-F.Pause))
-    (ap (checked_form t) (sym rolls-Pause) ∙ fold-roll-Form ℕ (Raw Entry) (Checked TypedForm) (Checked TypedBlock) (Checked TypedStmt) (form_layer t) block_layer stmt_layer Form-F.Pause)
+    (ap (checked_form t) (sym rolls-Pause) ∙ fold-roll-Form ℕ (Raw TableEntry) (Checked TypedForm) (Checked TypedBlock) (Checked TypedStmt) (form_layer t) block_layer stmt_layer Form-F.Pause)
     (ap form_made (sym rolls-Pause) ∙ fold-roll-Form ℕ Expr (ℕ → Option Term) (Option Term) (Option Term) form_term lowering.block_layer lowering.stmt_layer Form-F.Pause)
     refl
     (λ d. ap (declared_form d) (sym rolls-Pause) ∙ fold-roll-Form Name (Raw Name) Declared Declared Declared (declared_form_layer d) declared_block_layer declared_stmt_layer Form-F.Pause)
@@ -151,7 +151,7 @@ emit_fits t s at name_at name n ss ts e pure r =
     of_form t at (form.Emit name_at name None) s ss (form.Emit name_at n None) (form.Emit name_at n None) (form_term (Form-F.Emit name_at n None)) (term_at at (term_form.Emit n None)) ts
     (ap (λ (p : FormPart). p s) (ap numbered_form (sym (rolls-Emit name_at name None)) ∙ fold-roll-Form Name (Raw Name) FormPart BlockPart StmtPart numbered_form_layer numbered_block_layer numbered_stmt_layer (Form-F.Emit name_at name None))
     ∙ ap (λ m. with_scope (form.Emit name_at m None) s) e)
-    (ap (checked_form t) (sym (rolls-Emit name_at n None)) ∙ fold-roll-Form ℕ (Raw Entry) (Checked TypedForm) (Checked TypedBlock) (Checked TypedStmt) (form_layer t) block_layer stmt_layer (Form-F.Emit name_at n None)
+    (ap (checked_form t) (sym (rolls-Emit name_at n None)) ∙ fold-roll-Form ℕ (Raw TableEntry) (Checked TypedForm) (Checked TypedBlock) (Checked TypedStmt) (form_layer t) block_layer stmt_layer (Form-F.Emit name_at n None)
     ∙ ap (λ k. map1 (form.Emit name_at n) (emission t name_at k None)) pure)
     (ap form_made (sym (rolls-Emit name_at n None)) ∙ fold-roll-Form ℕ Expr (ℕ → Option Term) (Option Term) (Option Term) form_term lowering.block_layer lowering.stmt_layer (Form-F.Emit name_at n None))
     refl
@@ -165,7 +165,7 @@ receive_fits t s at name_at name n ss ts e r =
     of_form t at (form.Receive name_at name) s ss (form.Receive name_at n) (form.Receive name_at n) (form_term (Form-F.Receive name_at n)) (term_at at (term_form.Receive n)) ts
     (ap (λ (p : FormPart). p s) (ap numbered_form (sym (rolls-Receive name_at name)) ∙ fold-roll-Form Name (Raw Name) FormPart BlockPart StmtPart numbered_form_layer numbered_block_layer numbered_stmt_layer (Form-F.Receive name_at name))
     ∙ ap (λ m. with_scope (form.Receive name_at m) s) e)
-    (ap (checked_form t) (sym (rolls-Receive name_at n)) ∙ fold-roll-Form ℕ (Raw Entry) (Checked TypedForm) (Checked TypedBlock) (Checked TypedStmt) (form_layer t) block_layer stmt_layer (Form-F.Receive name_at n))
+    (ap (checked_form t) (sym (rolls-Receive name_at n)) ∙ fold-roll-Form ℕ (Raw TableEntry) (Checked TypedForm) (Checked TypedBlock) (Checked TypedStmt) (form_layer t) block_layer stmt_layer (Form-F.Receive name_at n))
     (ap form_made (sym (rolls-Receive name_at n)) ∙ fold-roll-Form ℕ Expr (ℕ → Option Term) (Option Term) (Option Term) form_term lowering.block_layer lowering.stmt_layer (Form-F.Receive name_at n))
     refl
     (λ d. ap (declared_form d) (sym (rolls-Receive name_at name)) ∙ fold-roll-Form Name (Raw Name) Declared Declared Declared (declared_form_layer d) declared_block_layer declared_stmt_layer (Form-F.Receive name_at name))
@@ -190,7 +190,7 @@ int_is_given at n =
 
 literal_fits : (t : Tables) (k : Kind) (at : ℕ) (n : ℤ) → wrapped Int n ≡ n → k ≡ Int → Gives (value_for t k (raw.Literal at (int n))) (int_expression n)
 literal_fits t k at n w i =
-    ap (λ (c : Checked Operand). then c (given k)) (ap (checked_expression t) (sym (rolls-Literal at (int n))) ∙ fold-roll-Raw Entry (Checked Operand) (checked_layer t) (Raw-F.Literal at (int n)))
+    ap (λ (c : Checked Operand). then c (given k)) (ap (checked_expression t) (sym (rolls-Literal at (int n))) ∙ fold-roll-Raw TableEntry (Checked Operand) (checked_layer t) (Raw-F.Literal at (int n)))
     ∙ ap (λ m. after [] (given k (literal at (int m) (spelling.Literal (int m))))) w
     ∙ ap (λ l. after [] (given l (literal at (int n) (spelling.Literal (int n))))) i
     ∙ ap (after []) (int_is_given at n)
@@ -201,13 +201,13 @@ unfolding form_made
 send_fits t s at name_at name value_at c n ss ts e x k r =
     let number : Value = record { kind = Int; number = n } in
     let v : raw.Raw Name = raw.Literal value_at number in
-    let w : raw.Raw Entry = raw.Literal value_at number in
+    let w : raw.Raw TableEntry = raw.Literal value_at number in
     of_form t at (form.Send name_at name v) s ss (form.Send name_at c w) (form.Send name_at c (int_expression n)) (form_term (Form-F.Send name_at c (int_expression n))) (term_at at (term_form.Send c (int_expression n))) ts
     (ap (λ (p : FormPart). p s) (ap numbered_form (sym (rolls-Send name_at name v)) ∙ fold-roll-Form Name (Raw Name) FormPart BlockPart StmtPart numbered_form_layer numbered_block_layer numbered_stmt_layer (Form-F.Send name_at name v))
     ∙ ap (λ x. with_scope (form.Send name_at (number_of role.Send name s) x) s) (number_of_literal value_at number s)
     ∙ ap (λ m. with_scope (form.Send name_at m w) s) e)
     (ap (checked_form t) (sym (rolls-Send name_at c w))
-    ∙ fold-roll-Form ℕ (Raw Entry) (Checked TypedForm) (Checked TypedBlock) (Checked TypedStmt) (form_layer t) block_layer stmt_layer (Form-F.Send name_at c w)
+    ∙ fold-roll-Form ℕ (Raw TableEntry) (Checked TypedForm) (Checked TypedBlock) (Checked TypedStmt) (form_layer t) block_layer stmt_layer (Form-F.Send name_at c w)
     ∙ ap (map1 (form.Send name_at c)) (literal_fits t (channel_at t c).kind value_at n x k))
     (ap form_made (sym (rolls-Send name_at c (int_expression n))) ∙ fold-roll-Form ℕ Expr (ℕ → Option Term) (Option Term) (Option Term) form_term lowering.block_layer lowering.stmt_layer (Form-F.Send name_at c (int_expression n)))
     (ap (λ x. send_of at c (int_of x)) (literal_is (int_expression n) n refl refl))
@@ -230,7 +230,7 @@ abbrev typed_block_at : ℕ → List TypedStmt → TypedBlock
 typed_block_at = kinds.block_at
 
 block_given : (t : Tables) (at : ℕ) (ns : List NumberedStmt) (us : List TypedStmt) → Gives (all_checked (map (checked_stmt t) ns)) us → Gives (checked_block t (numbered_block_at at ns)) (typed_block_at at us)
-block_given t at ns us h = fold-roll-Block ℕ (Raw Entry) (Checked TypedForm) (Checked TypedBlock) (Checked TypedStmt) (form_layer t) block_layer stmt_layer (record { at = at; statements = ns }) ∙ ap (map1 (kinds.block_at at)) h
+block_given t at ns us h = fold-roll-Block ℕ (Raw TableEntry) (Checked TypedForm) (Checked TypedBlock) (Checked TypedStmt) (form_layer t) block_layer stmt_layer (record { at = at; statements = ns }) ∙ ap (map1 (kinds.block_at at)) h
 
 block_made : (at : ℕ) (us : List TypedStmt) (ts : List Term) → all_some (map stmt_term us) ≡ Some ts → block_term (typed_block_at at us) ≡ Some (block_of at ts)
 block_made at us ts h = fold-roll-Block ℕ Expr (ℕ → Option Term) (Option Term) (Option Term) form_term lowering.block_layer lowering.stmt_layer (record { at = at; statements = us }) ∙ ap (option_map (block_of at)) h
@@ -247,7 +247,7 @@ while_fits t s at body_at bs body ss ts c b r =
     of_form t at (form.While (block_at body_at bs)) s ss (form.While n) (form.While u) (λ a. loop_of a (block_term u)) (term_at at (term_form.Loop (block_of body_at body))) ts
     (ap (λ (p : FormPart). p s) (ap numbered_form (sym (rolls-While (block_at body_at bs))) ∙ fold-roll-Form Name (Raw Name) FormPart BlockPart StmtPart numbered_form_layer numbered_block_layer numbered_stmt_layer (Form-F.While (block_at body_at bs)))
     ∙ ap (λ (m : Numbered NumberedBlock). with_scope (form.While m.value) m.scope) (block_numbered body_at s bs b.same c))
-    (ap (checked_form t) (sym (rolls-While n)) ∙ fold-roll-Form ℕ (Raw Entry) (Checked TypedForm) (Checked TypedBlock) (Checked TypedStmt) (form_layer t) block_layer stmt_layer (Form-F.While n)
+    (ap (checked_form t) (sym (rolls-While n)) ∙ fold-roll-Form ℕ (Raw TableEntry) (Checked TypedForm) (Checked TypedBlock) (Checked TypedStmt) (form_layer t) block_layer stmt_layer (Form-F.While n)
     ∙ ap (map1 form.While) (block_given t body_at (stmts_in_order (map numbered_stmt bs) s).value b.typed b.checks))
     (ap form_made (sym (rolls-While u)) ∙ fold-roll-Form ℕ Expr (ℕ → Option Term) (Option Term) (Option Term) form_term lowering.block_layer lowering.stmt_layer (Form-F.While u))
     (ap (loop_of at) (block_made body_at b.typed body b.terms))
@@ -284,7 +284,7 @@ halting_block_fits t s at halt_at c =
     let n : numbered_stmt (stmt_at halt_at form.Halt) s ≡ with_scope (numbered_at halt_at form.Halt) s =
     numbers_at halt_at form.Halt s form.Halt (ap (λ (p : FormPart). p s) (ap numbered_form (sym rolls-Halt) ∙ fold-roll-Form Name (Raw Name) FormPart BlockPart StmtPart numbered_form_layer numbered_block_layer numbered_stmt_layer Form-F.Halt)) in
     let g : Gives (checked_stmt t (numbered_at halt_at form.Halt)) (typed_at halt_at form.Halt) =
-    gives_at t halt_at form.Halt form.Halt (ap (checked_form t) (sym rolls-Halt) ∙ fold-roll-Form ℕ (Raw Entry) (Checked TypedForm) (Checked TypedBlock) (Checked TypedStmt) (form_layer t) block_layer stmt_layer Form-F.Halt) in
+    gives_at t halt_at form.Halt form.Halt (ap (checked_form t) (sym rolls-Halt) ∙ fold-roll-Form ℕ (Raw TableEntry) (Checked TypedForm) (Checked TypedBlock) (Checked TypedStmt) (form_layer t) block_layer stmt_layer Form-F.Halt) in
     let none : stmt_term (typed_at halt_at form.Halt) ≡ None =
     fold_out-Stmt ℕ Expr (ℕ → Option Term) (Option Term) (Option Term) form_term lowering.block_layer lowering.stmt_layer (typed_at halt_at form.Halt)
     ∙ ap (λ (f : ℕ → Option Term). f halt_at) (ap form_made (sym rolls-Halt) ∙ fold-roll-Form ℕ Expr (ℕ → Option Term) (Option Term) (Option Term) form_term lowering.block_layer lowering.stmt_layer Form-F.Halt) in

@@ -16,7 +16,7 @@ use Rattle.sj_grammar.specs.definitions.Walks.{Ended, walk}
 use Rattle.sj_grammar.specs.definitions.Limits.{IsWithin, Tells, Halts}
 use Rattle.sj_grammar.proofs.SourcePieces.{are_all, tokens_of, token_in, are_tokens}
 use Rattle.sj_names.specs.declared.failure.Failure.{Failure}
-use Rattle.sj_names.specs.declared.failure.Fault.TheVariants.{Unknown, Twice}
+use Rattle.sj_names.specs.declared.failure.FailureKind.TheVariants.{Unknown, Twice}
 use Rattle.sj_names.specs.definitions.Mentions.{names_of_tree}
 use Rattle.sj_names.specs.definitions.DeclaredTables.{tables_of_tree}
 use Rattle.sj_names.specs.definitions.Failures.{failure_at, failures_of, IsLeast}

@@ -5,7 +5,7 @@ use Rattle.kernel_terms.specs.declared.tables.Tables.{Tables}
 use Rattle.kernel_terms.specs.Built.{is_built}
 use Rattle.kernel_terms.specs.Statements.{statement}
 use Rattle.kernel_terms.specs.WellFormed.{has_parts, declared_by, fits_statement}
-use Rattle.sj_names.specs.definitions.FittingTrees.{Around, scope_of, fits_stmt, fits_block}
+use Rattle.sj_names.specs.definitions.FittingTrees.{Around, term_scope, fits_stmt, fits_block}
 use Rattle.java_types.specs.definitions.FittingKinds.{kind_rules}
 use Rattle.java_types.specs.definitions.TypedTrees.{TypedStmt, TypedBlock}
 
@@ -21,7 +21,7 @@ AreBuilt (t ∷ ts) = IsBuilt t × AreBuilt ts
 
 -- the term keeps the rules on uses and kinds there
 abbrev pub Fits : Tables → Around → Term → Type 0
-Fits t a term = fits_statement t (scope_of a) (statement term) ≡ true
+Fits t a term = fits_statement t (term_scope a) (statement term) ≡ true
 
 abbrev pub AllFit : Tables → Around → List Term → Type 0
 AllFit t a [] = Unit {0}

@@ -1,7 +1,7 @@
 // Small sources, their programs and their refusals, evaluated on the definitions themselves.
 
 ghost use Rattle.std.specs.Prelude.{codes};
-ghost use Rattle.sj_names.specs.declared.failure.Fault.TheVariants as fault;
+ghost use Rattle.sj_names.specs.declared.failure.FailureKind.TheVariants as fault;
 ghost use Rattle.sj_names.specs.definitions.Failures.{failure_at};
 ghost use Rattle.sj_accept.specs.declared.refusal.Refusal.TheVariants as refusal;
 ghost use Rattle.sj_accept.specs.definitions.Accepted.{IsSourceOf};

@@ -1,6 +1,6 @@
 use crate::{AcceptError, MOST_SOURCE_BYTES, Refusal, accept};
 use java_types::TypeFailure;
-use sj_names::{Failure, Fault};
+use sj_names::{Failure, FailureKind};
 use std::alloc::{AllocError, Global};
 use std::test::Fail;
 
@@ -16,7 +16,7 @@ fn refusal_of(alloc: Global, source: &[u8]) -> Result<Option<Refusal>, Fail> {
     }
 }
 
-fn failure(fault: Fault, at: u32) -> Option<Refusal> {
+fn failure(fault: FailureKind, at: u32) -> Option<Refusal> {
     Some(Refusal::Names(Failure { at, fault }))
 }
 
@@ -91,46 +91,50 @@ fn tells_the_first_reason(rt: HostRuntime) -> Result<(), Fail> {
 
 #[test]
 fn looks_at_names(rt: HostRuntime) -> Result<(), Fail> {
-    let cases: [(&[u8], Fault, u32); 9] = [
+    let cases: [(&[u8], FailureKind, u32); 9] = [
         (
             b"system{interface{output signal A;}{emit B;}}",
-            Fault::Unknown,
+            FailureKind::Unknown,
             40,
         ),
-        (b"system{interface{}{halt;emit B;}}", Fault::Unknown, 29),
+        (
+            b"system{interface{}{halt;emit B;}}",
+            FailureKind::Unknown,
+            29,
+        ),
         (
             b"system{interface{int channel C;int channel C;}{send C(1);}><{receive C;}}",
-            Fault::Twice,
+            FailureKind::Twice,
             43,
         ),
         (
             b"system{interface{int channel C;output signal C;}{send C(1);}><{receive C;}}",
-            Fault::Twice,
+            FailureKind::Twice,
             45,
         ),
         (
             b"system{interface{int channel C;}{emit C;}><{receive C;}}",
-            Fault::ChannelEnds,
+            FailureKind::ChannelEnds,
             29,
         ),
         (
             b"system{interface{int channel C;}{send D(1);}><{receive C;}}",
-            Fault::ChannelEnds,
+            FailureKind::ChannelEnds,
             29,
         ),
         (
             b"system{interface{output signal A;}{send A(1);}><{receive A;}}",
-            Fault::Unknown,
+            FailureKind::Unknown,
             40,
         ),
         (
             b"system{interface{output signal A;}{receive A;}}",
-            Fault::Unknown,
+            FailureKind::Unknown,
             43,
         ),
         (
             b"system{interface{input signal A;}{emit A;}}",
-            Fault::EmitInput,
+            FailureKind::EmitInput,
             39,
         ),
     ];
@@ -142,35 +146,35 @@ fn looks_at_names(rt: HostRuntime) -> Result<(), Fail> {
 
 #[test]
 fn looks_at_owners(rt: HostRuntime) -> Result<(), Fail> {
-    let cases: [(&[u8], Fault, u32); 6] = [
+    let cases: [(&[u8], FailureKind, u32); 6] = [
         (
             b"system{interface{int channel C;}{}}",
-            Fault::ChannelEnds,
+            FailureKind::ChannelEnds,
             29,
         ),
         (
             b"system{interface{int channel C;}{}><{receive C;}}",
-            Fault::ChannelEnds,
+            FailureKind::ChannelEnds,
             29,
         ),
         (
             b"system{interface{output signal A;}{emit A;}><{emit A;}}",
-            Fault::SignalShared,
+            FailureKind::SignalShared,
             51,
         ),
         (
             b"system{interface{int channel C;}{send C(1);}}",
-            Fault::ChannelEnds,
+            FailureKind::ChannelEnds,
             29,
         ),
         (
             b"system{interface{int channel C;}{send C(1);receive C;}}",
-            Fault::ChannelEnds,
+            FailureKind::ChannelEnds,
             51,
         ),
         (
             b"system{interface{int channel C;}{send C(1);}><{receive C;}><{receive C;}}",
-            Fault::ChannelEnds,
+            FailureKind::ChannelEnds,
             69,
         ),
     ];
@@ -268,7 +272,10 @@ fn accepts_sixteen_domains(rt: HostRuntime) -> Result<(), Fail> {
     source.extend_from_slice(b"}")?;
     assert_eq!(rt; refusal_of(rt.alloc(), &source)?, None);
     more.extend_from_slice(b"><{}}")?;
-    assert_eq!(rt; refusal_of(rt.alloc(), &more)?, failure(Fault::TooMany, 82));
+    assert_eq!(rt;
+        refusal_of(rt.alloc(), &more)?,
+        failure(FailureKind::TooMany, 82)
+    );
     Ok(())
 }
 
@@ -311,7 +318,7 @@ fn accepts_64_channels(rt: HostRuntime) -> Result<(), Fail> {
     let more = joined(rt.alloc(), true)?;
     assert_eq!(rt;
         refusal_of(rt.alloc(), &more)?,
-        failure(Fault::TooMany, 989)
+        failure(FailureKind::TooMany, 989)
     );
     Ok(())
 }
@@ -341,7 +348,7 @@ fn accepts_1024_signals_of_each_domain(rt: HostRuntime) -> Result<(), Fail> {
     let more = emitting(rt.alloc(), 1025)?;
     assert_eq!(rt;
         refusal_of(rt.alloc(), more.as_bytes())?,
-        failure(Fault::TooMany, 21449)
+        failure(FailureKind::TooMany, 21449)
     );
     Ok(())
 }
@@ -355,7 +362,7 @@ fn refuses_40_000_signals(rt: HostRuntime) -> Result<(), Fail> {
     source.push_str("}{}}")?;
     assert_eq!(rt;
         refusal_of(rt.alloc(), source.as_bytes())?,
-        failure(Fault::TooMany, 19401)
+        failure(FailureKind::TooMany, 19401)
     );
     Ok(())
 }

@@ -18,7 +18,7 @@ use java_types::TypeFailure;
 use java_values::NoMemory;
 use sj_accept::Refusal;
 use sj_io::{Files, Sink, write_all};
-use sj_names::Fault;
+use sj_names::FailureKind;
 use std::alloc::Global;
 use tick_log::print;
 
@@ -80,16 +80,16 @@ fn answer_numbered<K: Sink>(out: &mut K, text: &[u8], number: u64, status: u8) -
 }
 
 // What stands before the place of a failure of names.
-fn fault_text(fault: Fault) -> &'static [u8]
+fn fault_text(fault: FailureKind) -> &'static [u8]
     ensures { result.now ≡ fault_text fault }
 {
     match fault {
-        Fault::Unknown => b"refused Unknown at ",
-        Fault::Twice => b"refused Twice at ",
-        Fault::SignalShared => b"refused SignalShared at ",
-        Fault::EmitInput => b"refused EmitInput at ",
-        Fault::ChannelEnds => b"refused ChannelEnds at ",
-        Fault::TooMany => b"refused TooMany at ",
+        FailureKind::Unknown => b"refused Unknown at ",
+        FailureKind::Twice => b"refused Twice at ",
+        FailureKind::SignalShared => b"refused SignalShared at ",
+        FailureKind::EmitInput => b"refused EmitInput at ",
+        FailureKind::ChannelEnds => b"refused ChannelEnds at ",
+        FailureKind::TooMany => b"refused TooMany at ",
     }
 }
 

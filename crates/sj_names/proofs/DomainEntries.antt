@@ -13,7 +13,7 @@ use Rattle.sj_ast.specs.declared.statement.Stmt.{Stmt}
 use Rattle.sj_ast.specs.declared.statement.Form.TheOpen.{Form-F, Block-F, Stmt-F}
 use Rattle.sj_ast.specs.declared.statement.Form.TheFolds.{fold-Form, fold-roll-Form, fold-roll-Block, fold-roll-Stmt, ind-Block, ind-Stmt}
 use Rattle.sj_names.specs.declared.mention.Mention.{Mention}
-use Rattle.sj_names.specs.definitions.Mentions.{Part, silent, then, in_order, closed, expression_mentions, test_mentions, read, read_where_given, form_layer, block_layer, stmt_layer, block_part, stmt_part}
+use Rattle.sj_names.specs.definitions.Mentions.{NamedPart, silent, then, in_order, closed, expression_mentions, test_mentions, read, read_where_given, form_layer, block_layer, stmt_layer, block_part, stmt_part}
 use Rattle.sj_names.specs.definitions.DeclaredTables.{Declared, nothing, both, all, declared_form_layer, declared_block_layer, declared_stmt_layer, declared_form, declared_block, declared_stmt}
 use Rattle.sj_names.proofs.EntryLemmas.{emit_read, send_read, receive_read, exit_read, variable_read, raw_read, tests_read}
 use Rattle.sj_names.proofs.PartEntries.{Declares, declares_read, declares_silent, declares_then, declares_behind, declares_before, declares_closed, declares_signal, declares_trap, declares_variable}
@@ -27,8 +27,8 @@ SourceBlock = Block Name (Raw Name)
 abbrev pub SourceStmt : Type 0
 SourceStmt = Stmt Name (Raw Name)
 
-abbrev pub form_part : SourceForm → Part
-form_part = fold-Form Name (Raw Name) Part Part Part form_layer block_layer stmt_layer
+abbrev pub form_part : SourceForm → NamedPart
+form_part = fold-Form Name (Raw Name) NamedPart NamedPart NamedPart form_layer block_layer stmt_layer
 
 map_twice : {X Y Z : Type 0} (f : X → Y) (g : Y → Z) (xs : List X) → map g (map f xs) ≡ map (λ x. g (f x)) xs
 map_twice f g [] = refl
@@ -69,8 +69,8 @@ module _ (t : Tables) (ns : List (List Mention)) (d : ℕ) where
 
   -- one layer
 
-  abbrev parts_of : Form-F Name (Raw Name) ProvedForm ProvedBlock ProvedStmt → Form-F Name (Raw Name) Part Part Part
-  parts_of = form.map-Form Name (Raw Name) ProvedForm ProvedBlock ProvedStmt Part Part Part (λ f. form_part f.0) (λ b. block_part b.0) (λ s. stmt_part s.0)
+  abbrev parts_of : Form-F Name (Raw Name) ProvedForm ProvedBlock ProvedStmt → Form-F Name (Raw Name) NamedPart NamedPart NamedPart
+  parts_of = form.map-Form Name (Raw Name) ProvedForm ProvedBlock ProvedStmt NamedPart NamedPart NamedPart (λ f. form_part f.0) (λ b. block_part b.0) (λ s. stmt_part s.0)
 
   abbrev declared_of : Form-F Name (Raw Name) ProvedForm ProvedBlock ProvedStmt → Form-F Name (Raw Name) Declared Declared Declared
   declared_of = form.map-Form Name (Raw Name) ProvedForm ProvedBlock ProvedStmt Declared Declared Declared (λ f. declared_form d f.0) (λ b. declared_block d b.0) (λ s. declared_stmt d s.0)
@@ -110,7 +110,7 @@ module _ (t : Tables) (ns : List (List Mention)) (d : ℕ) where
   form_step (Form-F.Every immediate test body) = declares_behind t ns d (test_mentions test) (block_part body.0) (declared_block d body.0) (tests_read t ns d test) body.1
   form_step (Form-F.Loop body test) = declares_before t ns d (test_mentions test) (block_part body.0) (declared_block d body.0) body.1 (tests_read t ns d test)
 
-  parts_same : (y : Form-F Name (Raw Name) ProvedForm ProvedBlock ProvedStmt) → form.map-Form Name (Raw Name) SourceForm SourceBlock SourceStmt Part Part Part form_part block_part stmt_part (plain_of y) ≡ parts_of y
+  parts_same : (y : Form-F Name (Raw Name) ProvedForm ProvedBlock ProvedStmt) → form.map-Form Name (Raw Name) SourceForm SourceBlock SourceStmt NamedPart NamedPart NamedPart form_part block_part stmt_part (plain_of y) ≡ parts_of y
   parts_same (Form-F.Par first others) = ap (Form-F.Par (block_part first.0)) (map_twice (λ (b : ProvedBlock). b.0) block_part others)
   parts_same Form-F.Empty = refl
   parts_same Form-F.Pause = refl
@@ -168,13 +168,13 @@ module _ (t : Tables) (ns : List (List Mention)) (d : ℕ) where
 
   form_of : (y : Form-F Name (Raw Name) ProvedForm ProvedBlock ProvedStmt) → OfForm (form.roll-Form Name (Raw Name) (plain_of y))
   form_of y =
-      subst (λ p. Declares t ns d p (declared_form d (form.roll-Form Name (Raw Name) (plain_of y)))) (sym (fold-roll-Form Name (Raw Name) Part Part Part form_layer block_layer stmt_layer (plain_of y) ∙ ap form_layer (parts_same y)))
+      subst (λ p. Declares t ns d p (declared_form d (form.roll-Form Name (Raw Name) (plain_of y)))) (sym (fold-roll-Form Name (Raw Name) NamedPart NamedPart NamedPart form_layer block_layer stmt_layer (plain_of y) ∙ ap form_layer (parts_same y)))
       (subst (Declares t ns d (form_layer (parts_of y))) (sym (fold-roll-Form Name (Raw Name) Declared Declared Declared (declared_form_layer d) declared_block_layer declared_stmt_layer (plain_of y) ∙ ap (declared_form_layer d) (declared_same y))) (form_step y))
 
   block_of : (y : Block-F Name (Raw Name) ProvedForm ProvedBlock ProvedStmt) → OfBlock (block.roll-Block Name (Raw Name) (block.map-Block Name (Raw Name) ProvedForm ProvedBlock ProvedStmt SourceForm SourceBlock SourceStmt (λ f. f.0) (λ b. b.0) (λ s. s.0) y))
   block_of y =
       subst (λ p. Declares t ns d p (declared_block d (block.roll-Block Name (Raw Name) (block.map-Block Name (Raw Name) ProvedForm ProvedBlock ProvedStmt SourceForm SourceBlock SourceStmt (λ f. f.0) (λ b. b.0) (λ s. s.0) y))))
-      (sym (fold-roll-Block Name (Raw Name) Part Part Part form_layer block_layer stmt_layer (block.map-Block Name (Raw Name) ProvedForm ProvedBlock ProvedStmt SourceForm SourceBlock SourceStmt (λ f. f.0) (λ b. b.0) (λ s. s.0) y)
+      (sym (fold-roll-Block Name (Raw Name) NamedPart NamedPart NamedPart form_layer block_layer stmt_layer (block.map-Block Name (Raw Name) ProvedForm ProvedBlock ProvedStmt SourceForm SourceBlock SourceStmt (λ f. f.0) (λ b. b.0) (λ s. s.0) y)
       ∙ ap (λ l. closed (in_order l)) (map_twice (λ (s : ProvedStmt). s.0) stmt_part y.statements)))
       (subst (Declares t ns d (closed (in_order (map (λ (s : ProvedStmt). stmt_part s.0) y.statements))))
       (sym (fold-roll-Block Name (Raw Name) Declared Declared Declared (declared_form_layer d) declared_block_layer declared_stmt_layer (block.map-Block Name (Raw Name) ProvedForm ProvedBlock ProvedStmt SourceForm SourceBlock SourceStmt (λ f. f.0) (λ b. b.0) (λ s. s.0) y)
@@ -184,7 +184,7 @@ module _ (t : Tables) (ns : List (List Mention)) (d : ℕ) where
   stmt_of : (y : Stmt-F Name (Raw Name) ProvedForm ProvedBlock ProvedStmt) → OfStmt (stmt.roll-Stmt Name (Raw Name) (stmt.map-Stmt Name (Raw Name) ProvedForm ProvedBlock ProvedStmt SourceForm SourceBlock SourceStmt (λ f. f.0) (λ b. b.0) (λ s. s.0) y))
   stmt_of y =
       subst (λ p. Declares t ns d p (declared_stmt d (stmt.roll-Stmt Name (Raw Name) (stmt.map-Stmt Name (Raw Name) ProvedForm ProvedBlock ProvedStmt SourceForm SourceBlock SourceStmt (λ f. f.0) (λ b. b.0) (λ s. s.0) y))))
-      (sym (fold-roll-Stmt Name (Raw Name) Part Part Part form_layer block_layer stmt_layer (stmt.map-Stmt Name (Raw Name) ProvedForm ProvedBlock ProvedStmt SourceForm SourceBlock SourceStmt (λ f. f.0) (λ b. b.0) (λ s. s.0) y)))
+      (sym (fold-roll-Stmt Name (Raw Name) NamedPart NamedPart NamedPart form_layer block_layer stmt_layer (stmt.map-Stmt Name (Raw Name) ProvedForm ProvedBlock ProvedStmt SourceForm SourceBlock SourceStmt (λ f. f.0) (λ b. b.0) (λ s. s.0) y)))
       (subst (Declares t ns d (form_part y.form.0))
       (sym (fold-roll-Stmt Name (Raw Name) Declared Declared Declared (declared_form_layer d) declared_block_layer declared_stmt_layer (stmt.map-Stmt Name (Raw Name) ProvedForm ProvedBlock ProvedStmt SourceForm SourceBlock SourceStmt (λ f. f.0) (λ b. b.0) (λ s. s.0) y)))
       y.form.1)

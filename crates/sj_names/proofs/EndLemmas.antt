@@ -10,7 +10,7 @@ use Rattle.sj_names.specs.declared.mention.Role.TheVariants as role
 use Rattle.sj_names.specs.declared.mention.Use.{Use}
 use Rattle.sj_names.specs.declared.mention.Use.TheVariants as way
 use Rattle.sj_names.specs.declared.failure.Failure.{Failure}
-use Rattle.sj_names.specs.declared.failure.Fault.TheVariants.{ChannelEnds, SignalShared}
+use Rattle.sj_names.specs.declared.failure.FailureKind.TheVariants.{ChannelEnds, SignalShared}
 use Rattle.sj_names.specs.definitions.Failures.{failure_at, where_true, number_where, is_channel, is_send, is_receive, used, number_in, is_number, uses, first_with, shared_failure, shared_failures, end_failure, both_end_failures, domain_end_failures, end_failures, unjoined_failures}
 use Rattle.sj_names.proofs.ListedNames.{IsIn, Stands, empty_first, empty_second, nothing_of, one_of_names, first_here, IsFirst, first_found, same_names}
 
@@ -114,9 +114,9 @@ not_both false o n = refl
 one_end : (n : ℕ) (m : Mention) → (is_number n (number_in way.SendingEnd m) && is_number n (number_in way.ReceivingEnd m)) ≡ false
 one_end n m = not_both (is_send m.role) (number_where is_channel (used m.role m.meaning)) n
 
-number_of : (n : ℕ) (o : Option ℕ) → is_number n o ≡ true → o ≡ Some n
-number_of n None h = absurd (cc)
-number_of n (Some k) h = ap Some (same k n h)
+number_is : (n : ℕ) (o : Option ℕ) → is_number n o ≡ true → o ≡ Some n
+number_is n None h = absurd (cc)
+number_is n (Some k) h = ap Some (same k n h)
   where
     same : (a b : ℕ) → (a == b) ≡ true → a ≡ b
     same a b h = grind (arith, nat_tests)
@@ -144,13 +144,13 @@ ends_apart_from n earlier before (x ∷ xs) b h =
     sending : is_number n (number_in way.SendingEnd x) ≡ true → uses way.ReceivingEnd n before ≡ false
     sending a =
         neither_second (list_any (uses way.SendingEnd n) earlier) (uses way.ReceivingEnd n before)
-        (unended way.SendingEnd way.ReceivingEnd earlier before x.at n (number_in way.SendingEnd x) (number_of n (number_in way.SendingEnd x) a)
+        (unended way.SendingEnd way.ReceivingEnd earlier before x.at n (number_in way.SendingEnd x) (number_is n (number_in way.SendingEnd x) a)
         (empty_first (end_failure way.SendingEnd way.ReceivingEnd earlier before x.at (number_in way.SendingEnd x)) (end_failure way.ReceivingEnd way.SendingEnd earlier before x.at (number_in way.ReceivingEnd x)) own))
 
     receiving : is_number n (number_in way.ReceivingEnd x) ≡ true → uses way.SendingEnd n before ≡ false
     receiving a =
         neither_second (list_any (uses way.ReceivingEnd n) earlier) (uses way.SendingEnd n before)
-        (unended way.ReceivingEnd way.SendingEnd earlier before x.at n (number_in way.ReceivingEnd x) (number_of n (number_in way.ReceivingEnd x) a)
+        (unended way.ReceivingEnd way.SendingEnd earlier before x.at n (number_in way.ReceivingEnd x) (number_is n (number_in way.ReceivingEnd x) a)
         (empty_second (end_failure way.SendingEnd way.ReceivingEnd earlier before x.at (number_in way.SendingEnd x)) (end_failure way.ReceivingEnd way.SendingEnd earlier before x.at (number_in way.ReceivingEnd x)) own))
 
     more : (uses way.SendingEnd n (before ++ x ∷ []) && uses way.ReceivingEnd n (before ++ x ∷ [])) ≡ false

@@ -15,8 +15,8 @@ use Rattle.sj_ast.specs.declared.test.Test.{Test}
 use Rattle.sj_ast.specs.declared.test.Test as signal_test
 use Rattle.sj_ast.specs.declared.test.Test.TheOpen.{Test-F}
 use Rattle.sj_ast.specs.declared.test.Test.TheFolds.{fold-roll-Test, ind-Test}
-use Rattle.sj_names.specs.declared.mention.Sort.{Sort}
-use Rattle.sj_names.specs.declared.mention.Sort.TheVariants as sort
+use Rattle.sj_names.specs.declared.mention.NameSort.{NameSort}
+use Rattle.sj_names.specs.declared.mention.NameSort.TheVariants as sort
 use Rattle.sj_names.specs.declared.mention.Role.{Role}
 use Rattle.sj_names.specs.declared.mention.Role.TheVariants as role
 use Rattle.sj_names.specs.declared.mention.Meaning.{Meaning}
@@ -24,8 +24,7 @@ use Rattle.sj_names.specs.declared.mention.Mention.{Mention}
 use Rattle.sj_names.specs.definitions.Scopes.{Named, Scope, meaning_in}
 use Rattle.sj_names.specs.definitions.Mentions.{mention, raw_layer, expression_mentions, test_layer, test_mentions}
 use Rattle.sj_names.specs.declared.mention.Use.TheVariants as way
-use Rattle.sj_names.specs.definitions.Failures.{is_new, places_of}
-use Rattle.sj_names.specs.definitions.DeclaredTables.{first_domain}
+use Rattle.sj_names.specs.definitions.Failures.{is_new, places_of, first_domain}
 use Rattle.sj_names.proofs.ListedNames.{IsIn}
 
 -- the number of a signal of the interface, or of a channel, where the domains have these names
@@ -35,20 +34,20 @@ SignalEntry t ns s n = (nat_lt n (length t.signals) ≡ true) × ((signal_at t n
 abbrev pub ChannelEntry : Tables → List (List Mention) → ℕ → Type 0
 ChannelEntry t ns n = (nat_lt n (length t.channels) ≡ true) × ((channel_at t n).sender ≡ first_domain ns way.SendingEnd n) × ((channel_at t n).receiver ≡ first_domain ns way.ReceivingEnd n)
 
-abbrev pub PortEntry : Tables → List (List Mention) → Sort → ℕ → Type 0
+abbrev pub PortEntry : Tables → List (List Mention) → NameSort → ℕ → Type 0
 PortEntry t ns sort.Input n = SignalEntry t ns table_sort.Input n
 PortEntry t ns sort.Output n = SignalEntry t ns table_sort.Output n
 PortEntry t ns sort.Channel n = ChannelEntry t ns n
 PortEntry t ns _ n = ⊥
 
 -- or of something that the domain declares
-abbrev pub EntryOf : Tables → List (List Mention) → ℕ → Sort → ℕ → Type 0
+abbrev pub EntryOf : Tables → List (List Mention) → ℕ → NameSort → ℕ → Type 0
 EntryOf t ns d sort.Local n = is_local_of t d n ≡ true
 EntryOf t ns d sort.Variable n = is_variable_of t d n ≡ true
 EntryOf t ns d sort.Trap n = Unit {0}
 EntryOf t ns d s n = PortEntry t ns s n
 
-pub port_entry : (t : Tables) (ns : List (List Mention)) (d : ℕ) (s : Sort) (n : ℕ) → PortEntry t ns s n → EntryOf t ns d s n
+pub port_entry : (t : Tables) (ns : List (List Mention)) (d : ℕ) (s : NameSort) (n : ℕ) → PortEntry t ns s n → EntryOf t ns d s n
 port_entry t ns d sort.Input n h = h
 port_entry t ns d sort.Output n h = h
 port_entry t ns d sort.Channel n h = h
@@ -58,19 +57,19 @@ port_entry t ns d sort.Trap n h = absurd h
 
 -- visible names
 
-abbrev pub AllNamed : (Sort → ℕ → Type 0) → List Named → Type 0
+abbrev pub AllNamed : (NameSort → ℕ → Type 0) → List Named → Type 0
 AllNamed P [] = Unit {0}
 AllNamed P (v ∷ vs) = P v.meaning.sort v.meaning.number × AllNamed P vs
 
-pub all_named : (P Q : Sort → ℕ → Type 0) → ((s : Sort) (n : ℕ) → P s n → Q s n) → (vs : List Named) → AllNamed P vs → AllNamed Q vs
+pub all_named : (P Q : NameSort → ℕ → Type 0) → ((s : NameSort) (n : ℕ) → P s n → Q s n) → (vs : List Named) → AllNamed P vs → AllNamed Q vs
 all_named P Q f [] h = tt
 all_named P Q f (v ∷ vs) h = (f v.meaning.sort v.meaning.number h.0, all_named P Q f vs h.1)
 
-pub one_named_more : (P : Sort → ℕ → Type 0) (vs : List Named) (v : Named) → AllNamed P vs → P v.meaning.sort v.meaning.number → AllNamed P (vs ++ v ∷ [])
+pub one_named_more : (P : NameSort → ℕ → Type 0) (vs : List Named) (v : Named) → AllNamed P vs → P v.meaning.sort v.meaning.number → AllNamed P (vs ++ v ∷ [])
 one_named_more P [] v h p = (p, tt)
 one_named_more P (w ∷ ws) v h p = (h.0, one_named_more P ws v h.1 p)
 
-pub meaning_named : (P : Sort → ℕ → Type 0) (vs : List Named) (name : List ℕ) (m : Meaning) → AllNamed P vs → meaning_in vs name ≡ Some m → P m.sort m.number
+pub meaning_named : (P : NameSort → ℕ → Type 0) (vs : List Named) (name : List ℕ) (m : Meaning) → AllNamed P vs → meaning_in vs name ≡ Some m → P m.sort m.number
 meaning_named P [] name m h e = absurd (cc)
 meaning_named P (v ∷ vs) name m h e = split (bytes_eq name v.name) e (λ g. meaning_named P vs name m h.1 g)
   where
@@ -112,7 +111,7 @@ mention_entry t ns d r name s v = record { each = λ m i k e. pick m k e i }
     pick m k e (inl x) = meaning_named (EntryOf t ns d) s.visible name.text k v (ap (λ (y : Mention). y.meaning) (sym x) ∙ e)
     pick m k e (inr x) = absurd x
 
-pub places_both : (test : Sort → Bool) (xs ys : List Mention) → places_of test (xs ++ ys) ≡ places_of test xs ++ places_of test ys
+pub places_both : (test : NameSort → Bool) (xs ys : List Mention) → places_of test (xs ++ ys) ≡ places_of test xs ++ places_of test ys
 places_both test [] ys = refl
 places_both test (x ∷ xs) ys = split (is_new test x.role x.meaning) (places_both test xs ys)
   where
@@ -122,7 +121,7 @@ places_both test (x ∷ xs) ys = split (is_new test x.role x.meaning) (places_bo
 
 -- names that are read: none is declared
 pub record AreRead (t : Tables) (ns : List (List Mention)) (d : ℕ) (ms : Scope → List Mention) : Type 0 where
-  pub places : (test : Sort → Bool) (s : Scope) → places_of test (ms s) ≡ []
+  pub places : (test : NameSort → Bool) (s : Scope) → places_of test (ms s) ≡ []
   pub entries : (s : Scope) → AllNamed (EntryOf t ns d) s.visible → AreEntries t ns d (ms s)
 
 pub none_read : (t : Tables) (ns : List (List Mention)) (d : ℕ) → AreRead t ns d (λ s. [])

@@ -17,17 +17,17 @@ use Rattle.sj_ast.specs.declared.statement.Block as block
 use Rattle.sj_ast.specs.declared.statement.Stmt as stmt
 use Rattle.sj_ast.specs.declared.statement.Form.TheOpen.{Form-F, Block-F, Stmt-F}
 use Rattle.sj_ast.specs.declared.statement.Form.TheFolds.{fold-roll-Form, fold-roll-Block, fold-roll-Stmt, ind-Block}
-use Rattle.sj_names.specs.declared.entry.Entry.{Entry}
-use Rattle.sj_names.specs.declared.mention.Sort.TheVariants as sort
+use Rattle.sj_names.specs.declared.entry.TableEntry.{TableEntry}
+use Rattle.sj_names.specs.declared.mention.NameSort.TheVariants as sort
 use Rattle.sj_names.specs.declared.mention.Role.TheVariants as role
 use Rattle.sj_names.specs.declared.mention.Mention.{Mention}
 use Rattle.sj_names.specs.definitions.Scopes.{Named, Scope, meaning_in, declare, declared_where, closed_at}
-use Rattle.sj_names.specs.definitions.Mentions.{Part, mention, silent, then, in_order, closed, told, mentioned, declared, expression_mentions, test_mentions, read, read_where_given, tested, new_variable, form_layer, block_layer, stmt_layer, block_part, stmt_part}
+use Rattle.sj_names.specs.definitions.Mentions.{NamedPart, mention, silent, then, in_order, closed, told, mentioned, declared, expression_mentions, test_mentions, read, read_where_given, tested, new_variable, form_layer, block_layer, stmt_layer, block_part, stmt_part}
 use Rattle.sj_names.specs.definitions.Failures.{own_failures}
 use Rattle.sj_names.specs.definitions.SoundTables.{is_sound}
 use Rattle.sj_names.specs.definitions.DeclaredTables.{Declared, nothing, both, all, signal_info, declared_form_layer, declared_block_layer, declared_stmt_layer, declared_form, declared_block, declared_stmt}
 use Rattle.sj_names.specs.definitions.NumberedTrees.{NumberedForm, NumberedBlock, NumberedStmt, BlockPart, StmtPart, FormPart, number_of, numbered_expression, numbered_test, numbered_value, numbered_signal, with_block, with_blocks, with_two, trap_part, plain, blocks_in_order, stmts_in_order, block_where_given, closed_block, numbered_form_layer, numbered_block_layer, numbered_stmt_layer, numbered_form, numbered_block, numbered_stmt}
-use Rattle.sj_names.specs.definitions.FittingTrees.{Around, Fitted, scope_of, in_trap, with_local, alone, blocks_fit, stmts_fit, other_fits, fits_test, is_declared_variable, form_fits, block_fits, stmt_fits, fits_form, fits_block, fits_stmt, uses_entries, value_uses_entries, entry_rules}
+use Rattle.sj_names.specs.definitions.FittingTrees.{Around, Fitted, term_scope, in_trap, with_local, alone, blocks_fit, stmts_fit, other_fits, fits_test, is_declared_variable, fits_form_layer, fits_block_layer, fits_stmt_layer, fits_form, fits_block, fits_stmt, uses_entries, value_uses_entries, entry_rules}
 use Rattle.sj_names.specs.definitions.FittingTrees as fitting
 use Rattle.sj_names.proofs.ListedNames.{empty_second}
 use Rattle.sj_names.proofs.EntryLemmas.{AllNamed}
@@ -38,13 +38,13 @@ use Rattle.sj_names.proofs.FitValues.{StandsAround, one_holds, second_holds, all
 use Rattle.sj_names.proofs.FitParts.{Start, Ended, PartFits, BlockFits, alone_ended, first_start, second_start, behind_read, before_read, number_new, local_visible, trap_visible, variable_visible, own_variable}
 
 module _ (t : Tables) (d : ℕ) where
-  abbrev pub form_fit : NumberedForm → fitting.Part
+  abbrev pub form_fit : NumberedForm → fitting.FittingPart
   form_fit = fits_form t (entry_rules t)
 
-  abbrev pub block_fit : NumberedBlock → fitting.Part
+  abbrev pub block_fit : NumberedBlock → fitting.FittingPart
   block_fit = fits_block t (entry_rules t)
 
-  abbrev pub stmt_fit : NumberedStmt → fitting.Part
+  abbrev pub stmt_fit : NumberedStmt → fitting.FittingPart
   stmt_fit = fits_stmt t (entry_rules t)
 
   abbrev OfForm : SourceForm → Type 0
@@ -121,27 +121,27 @@ module _ (t : Tables) (d : ℕ) where
   -- a form by its layer
 
   abbrev Layer : Type 0
-  Layer = Form-F ℕ (Raw Entry) NumberedForm NumberedBlock NumberedStmt
+  Layer = Form-F ℕ (Raw TableEntry) NumberedForm NumberedBlock NumberedStmt
 
-  abbrev layer_fits : Layer → fitting.Part
-  layer_fits z = form_fits t (entry_rules t) (form.map-Form ℕ (Raw Entry) NumberedForm NumberedBlock NumberedStmt fitting.Part fitting.Part fitting.Part form_fit block_fit stmt_fit z)
+  abbrev layer_fits : Layer → fitting.FittingPart
+  layer_fits z = fits_form_layer t (entry_rules t) (form.map-Form ℕ (Raw TableEntry) NumberedForm NumberedBlock NumberedStmt fitting.FittingPart fitting.FittingPart fitting.FittingPart form_fit block_fit stmt_fit z)
 
-  fit_as : (v : NumberedForm) (z : Layer) (a : Around) → form.roll-Form ℕ (Raw Entry) z ≡ v → form_fit v a ≡ layer_fits z a
-  fit_as v z a e = ap (λ x. form_fit x a) (sym e) ∙ ap (λ (f : fitting.Part). f a) (fold-roll-Form ℕ (Raw Entry) fitting.Part fitting.Part fitting.Part (form_fits t (entry_rules t)) (block_fits t (entry_rules t)) (stmt_fits t (entry_rules t)) z)
+  fit_as : (v : NumberedForm) (z : Layer) (a : Around) → form.roll-Form ℕ (Raw TableEntry) z ≡ v → form_fit v a ≡ layer_fits z a
+  fit_as v z a e = ap (λ x. form_fit x a) (sym e) ∙ ap (λ (f : fitting.FittingPart). f a) (fold-roll-Form ℕ (Raw TableEntry) fitting.FittingPart fitting.FittingPart fitting.FittingPart (fits_form_layer t (entry_rules t)) (fits_block_layer t (entry_rules t)) (fits_stmt_layer t (entry_rules t)) z)
 
-  ended_as : (v : NumberedForm) (z : Layer) (a : Around) (vs : List Named) → form.roll-Form ℕ (Raw Entry) z ≡ v → Ended d (layer_fits z a) vs → Ended d (form_fit v a) vs
+  ended_as : (v : NumberedForm) (z : Layer) (a : Around) (vs : List Named) → form.roll-Form ℕ (Raw TableEntry) z ≡ v → Ended d (layer_fits z a) vs → Ended d (form_fit v a) vs
   ended_as v z a vs e h = subst (λ r. Ended d r vs) (sym (fit_as v z a e)) h
 
   -- a form that fits alone
-  ended_alone : (v : NumberedForm) (z : Layer) (a : Around) (vs : List Named) (ok : Bool) → form.roll-Form ℕ (Raw Entry) z ≡ v → layer_fits z a ≡ alone ok a → ok ≡ true → a.domain ≡ d → AllNamed (StandsAround a) vs → Ended d (form_fit v a) vs
+  ended_alone : (v : NumberedForm) (z : Layer) (a : Around) (vs : List Named) (ok : Bool) → form.roll-Form ℕ (Raw TableEntry) z ≡ v → layer_fits z a ≡ alone ok a → ok ≡ true → a.domain ≡ d → AllNamed (StandsAround a) vs → Ended d (form_fit v a) vs
   ended_alone v z a vs ok e l h x y = ended_as v z a vs e (subst (λ r. Ended d r vs) (sym l) (alone_ended d ok a vs h x y))
 
   -- forms without parts
 
-  abbrev Fits : Part → Declared → FormPart → Type 0
+  abbrev Fits : NamedPart → Declared → FormPart → Type 0
   Fits p D q = PartFits t d form_fit p D q
 
-  quiet : (v : NumberedForm) (z : Layer) → form.roll-Form ℕ (Raw Entry) z ≡ v → ((a : Around) → layer_fits z a ≡ alone true a) → Fits silent nothing (plain v)
+  quiet : (v : NumberedForm) (z : Layer) → form.roll-Form ℕ (Raw TableEntry) z ≡ v → ((a : Around) → layer_fits z a ≡ alone true a) → Fits silent nothing (plain v)
   quiet v z e l = record { scope = λ s. refl; fits = λ s a h. ended_alone v z a s.visible true e (l a) refl h.domain h.visible }
 
   emit_step : (at : ℕ) (name : Name) (value : Option (Raw Name)) → Fits (then (mentioned role.Emit name) (read_where_given value)) nothing (λ s. plain (form.Emit at (number_of role.Emit name s) (numbered_value value s)) s)
@@ -156,8 +156,8 @@ module _ (t : Tables) (d : ℕ) where
       fits s a h =
           let n = number_of role.Emit name s in
           let x = numbered_value value s in
-          ended_alone (form.Emit at n x) (Form-F.Emit at n x) a (read_where_given value s).scope.visible (can_emit t (scope_of a) n && value_uses_entries t (scope_of a) x) (form_is.rolls-Emit at n x) refl
-          (pair_true (can_emit t (scope_of a) n) (value_uses_entries t (scope_of a) x) (emit_fits t d a name s h.domain h.visible (one_holds (is_sound t d) (mention role.Emit name s) (read_where_given value s).mentions h.sound))
+          ended_alone (form.Emit at n x) (Form-F.Emit at n x) a (read_where_given value s).scope.visible (can_emit t (term_scope a) n && value_uses_entries t (term_scope a) x) (form_is.rolls-Emit at n x) refl
+          (pair_true (can_emit t (term_scope a) n) (value_uses_entries t (term_scope a) x) (emit_fits t d a name s h.domain h.visible (one_holds (is_sound t d) (mention role.Emit name s) (read_where_given value s).mentions h.sound))
           (value_fits t d value s a h.domain h.visible (all_second (is_sound t d) (mention role.Emit name s ∷ []) (read_where_given value s).mentions h.sound)))
           h.domain (subst (λ (c : Scope). AllNamed (StandsAround a) c.visible) (scopes value s) h.visible)
 
@@ -173,15 +173,15 @@ module _ (t : Tables) (d : ℕ) where
       fits s a h =
           let n = number_of role.Emit name s in
           let x = numbered_value value s in
-          ended_alone (form.Sustain at n x) (Form-F.Sustain at n x) a (read_where_given value s).scope.visible (can_emit t (scope_of a) n && value_uses_entries t (scope_of a) x) (form_is.rolls-Sustain at n x) refl
-          (pair_true (can_emit t (scope_of a) n) (value_uses_entries t (scope_of a) x) (emit_fits t d a name s h.domain h.visible (one_holds (is_sound t d) (mention role.Emit name s) (read_where_given value s).mentions h.sound))
+          ended_alone (form.Sustain at n x) (Form-F.Sustain at n x) a (read_where_given value s).scope.visible (can_emit t (term_scope a) n && value_uses_entries t (term_scope a) x) (form_is.rolls-Sustain at n x) refl
+          (pair_true (can_emit t (term_scope a) n) (value_uses_entries t (term_scope a) x) (emit_fits t d a name s h.domain h.visible (one_holds (is_sound t d) (mention role.Emit name s) (read_where_given value s).mentions h.sound))
           (value_fits t d value s a h.domain h.visible (all_second (is_sound t d) (mention role.Emit name s ∷ []) (read_where_given value s).mentions h.sound)))
           h.domain (subst (λ (c : Scope). AllNamed (StandsAround a) c.visible) (scopes value s) h.visible)
 
   -- a name in a role, and a value
-  with_value : (a : Around) (ok : Bool) (m : Mention) (value : Raw Name) (s : Scope) (D : Declared) → Start t d s a D (m ∷ expression_mentions value s) → (is_sound t d m ≡ true → ok ≡ true) → (ok && uses_entries t (scope_of a) (numbered_expression value s)) ≡ true
+  with_value : (a : Around) (ok : Bool) (m : Mention) (value : Raw Name) (s : Scope) (D : Declared) → Start t d s a D (m ∷ expression_mentions value s) → (is_sound t d m ≡ true → ok ≡ true) → (ok && uses_entries t (term_scope a) (numbered_expression value s)) ≡ true
   with_value a ok m value s D h f =
-      pair_true ok (uses_entries t (scope_of a) (numbered_expression value s)) (f (one_holds (is_sound t d) m (expression_mentions value s) h.sound))
+      pair_true ok (uses_entries t (term_scope a) (numbered_expression value s)) (f (one_holds (is_sound t d) m (expression_mentions value s) h.sound))
       (raw_fits t d value s a h.domain h.visible (all_second (is_sound t d) (m ∷ []) (expression_mentions value s) h.sound))
 
   assign_step : (at : ℕ) (name : Name) (value : Raw Name) → Fits (then (mentioned role.Variable name) (read value)) nothing (λ s. plain (form.Assign at (number_of role.Variable name s) (numbered_expression value s)) s)
@@ -190,7 +190,7 @@ module _ (t : Tables) (d : ℕ) where
     fits = λ s a h.
         let n = number_of role.Variable name s in
         let x = numbered_expression value s in
-        ended_alone (form.Assign at n x) (Form-F.Assign at n x) a s.visible (is_variable_of t a.domain n && uses_entries t (scope_of a) x) (form_is.rolls-Assign at n x) refl
+        ended_alone (form.Assign at n x) (Form-F.Assign at n x) a s.visible (is_variable_of t a.domain n && uses_entries t (term_scope a) x) (form_is.rolls-Assign at n x) refl
         (with_value a (is_variable_of t a.domain n) (mention role.Variable name s) value s nothing h (variable_fits t d a name s h.domain)) h.domain h.visible;
   }
 
@@ -200,7 +200,7 @@ module _ (t : Tables) (d : ℕ) where
     fits = λ s a h.
         let n = number_of role.Variable name s in
         let x = numbered_expression value s in
-        ended_alone (form.Update at n sign_at op x) (Form-F.Update at n sign_at op x) a s.visible (is_variable_of t a.domain n && uses_entries t (scope_of a) x) (form_is.rolls-Update at n sign_at op x) refl
+        ended_alone (form.Update at n sign_at op x) (Form-F.Update at n sign_at op x) a s.visible (is_variable_of t a.domain n && uses_entries t (term_scope a) x) (form_is.rolls-Update at n sign_at op x) refl
         (with_value a (is_variable_of t a.domain n) (mention role.Variable name s) value s nothing h (variable_fits t d a name s h.domain)) h.domain h.visible;
   }
 
@@ -210,7 +210,7 @@ module _ (t : Tables) (d : ℕ) where
     fits = λ s a h.
         let n = number_of role.Send name s in
         let x = numbered_expression value s in
-        ended_alone (form.Send at n x) (Form-F.Send at n x) a s.visible (is_sender_of t a.domain n && uses_entries t (scope_of a) x) (form_is.rolls-Send at n x) refl
+        ended_alone (form.Send at n x) (Form-F.Send at n x) a s.visible (is_sender_of t a.domain n && uses_entries t (term_scope a) x) (form_is.rolls-Send at n x) refl
         (with_value a (is_sender_of t a.domain n) (mention role.Send name s) value s nothing h (send_fits t d a name s h.domain)) h.domain h.visible;
   }
 
@@ -237,7 +237,7 @@ module _ (t : Tables) (d : ℕ) where
     scope = λ s. refl;
     fits = λ s a h.
         let x = numbered_test test s in
-        ended_alone (form.Await immediate x) (Form-F.Await immediate x) a s.visible (fits_test t (scope_of a) x) (form_is.rolls-Await immediate x) refl
+        ended_alone (form.Await immediate x) (Form-F.Await immediate x) a s.visible (fits_test t (term_scope a) x) (form_is.rolls-Await immediate x) refl
         (tests_fit t d test s a h.domain h.visible h.sound) h.domain h.visible;
   }
 
@@ -265,7 +265,7 @@ module _ (t : Tables) (d : ℕ) where
         let n = number_of (role.Declare sort.Variable) name s in
         let x = numbered_expression value s in
         let fresh = not_visible sort.Variable name s (expression_mentions value s) h.own in
-        ended_alone (form.Variable k at n x) (Form-F.Variable k at n x) a (declare sort.Variable name.text s).visible (is_declared_variable t a.domain k n && uses_entries t (scope_of a) x) (form_is.rolls-Variable k at n x) refl
+        ended_alone (form.Variable k at n x) (Form-F.Variable k at n x) a (declare sort.Variable name.text s).visible (is_declared_variable t a.domain k n && uses_entries t (term_scope a) x) (form_is.rolls-Variable k at n x) refl
         (with_value a (is_declared_variable t a.domain k n) (mention (role.Declare sort.Variable) name s) value s (record { signals = []; variables = record { domain = d; kind = k } ∷ [] }) h
         (λ i. ap (λ e. is_declared_variable t e k n) h.domain ∙ ap (is_declared_variable t d k) (number_new t d sort.Variable name s fresh) ∙ own_variable t d k s.counts.variables (record { domain = d; kind = k }) refl h.variables))
         h.domain (variable_visible t d a name s fresh h.visible);
@@ -292,7 +292,7 @@ module _ (t : Tables) (d : ℕ) where
 
   -- what a form with one block asks beside it
   one_block : (b : ProvedBlock) (ms : Scope → List Mention) (ok : Scope → Around → Bool) (f : Scope → NumberedBlock → NumberedForm) (z : Scope → NumberedBlock → Layer)
-      → ((s : Scope) (x : NumberedBlock) → form.roll-Form ℕ (Raw Entry) (z s x) ≡ f s x) → ((s : Scope) (x : NumberedBlock) (a : Around) → layer_fits (z s x) a ≡ alone (ok s a && (block_fit x a).fits) a)
+      → ((s : Scope) (x : NumberedBlock) → form.roll-Form ℕ (Raw TableEntry) (z s x) ≡ f s x) → ((s : Scope) (x : NumberedBlock) (a : Around) → layer_fits (z s x) a ≡ alone (ok s a && (block_fit x a).fits) a)
       → ((s : Scope) (a : Around) → a.domain ≡ d → AllNamed (StandsAround a) s.visible → list_all (is_sound t d) (ms s) ≡ true → ok s a ≡ true)
       → Fits (then (told ms) (block_part b.0)) (declared_block d b.0) (λ s. with_block (numbered_block b.0 s) (f s))
   one_block b ms ok f z e l o = record {
@@ -321,15 +321,15 @@ module _ (t : Tables) (d : ℕ) where
         let y = numbered_test test (numbered_block b.0 s).scope in
         let w = (block_part b.0 s).scope in
         let v = behind_block b.0 s a h.visible in
-        ended_alone (form.Loop x y) (Form-F.Loop x y) a w.visible ((block_fit x a).fits && fits_test t (scope_of a) y) (form_is.rolls-Loop x y) refl
-        (pair_true (block_fit x a).fits (fits_test t (scope_of a) y) (b.1.fits s a (before_read t d s a (declared_block d b.0) (block_part b.0 s).mentions (test_mentions test w) h))
-        (subst (λ c. fits_test t (scope_of a) (numbered_test test c) ≡ true) (sym (b.1.scope s)) (tests_fit t d test w a h.domain v (all_second (is_sound t d) (block_part b.0 s).mentions (test_mentions test w) h.sound))))
+        ended_alone (form.Loop x y) (Form-F.Loop x y) a w.visible ((block_fit x a).fits && fits_test t (term_scope a) y) (form_is.rolls-Loop x y) refl
+        (pair_true (block_fit x a).fits (fits_test t (term_scope a) y) (b.1.fits s a (before_read t d s a (declared_block d b.0) (block_part b.0 s).mentions (test_mentions test w) h))
+        (subst (λ c. fits_test t (term_scope a) (numbered_test test c) ≡ true) (sym (b.1.scope s)) (tests_fit t d test w a h.domain v (all_second (is_sound t d) (block_part b.0 s).mentions (test_mentions test w) h.sound))))
         h.domain v;
   }
 
   -- and one with a block, and another that may be given
   two_blocks_none : (b : ProvedBlock) (ms : Scope → List Mention) (ok : Scope → Around → Bool) (f : Scope → NumberedBlock → Option NumberedBlock → NumberedForm) (z : Scope → NumberedBlock → Option NumberedBlock → Layer)
-      → ((s : Scope) (x : NumberedBlock) (y : Option NumberedBlock) → form.roll-Form ℕ (Raw Entry) (z s x y) ≡ f s x y)
+      → ((s : Scope) (x : NumberedBlock) (y : Option NumberedBlock) → form.roll-Form ℕ (Raw TableEntry) (z s x y) ≡ f s x y)
       → ((s : Scope) (x : NumberedBlock) (a : Around) → layer_fits (z s x None) a ≡ alone (ok s a && ((block_fit x a).fits && true)) a)
       → ((s : Scope) (a : Around) → a.domain ≡ d → AllNamed (StandsAround a) s.visible → list_all (is_sound t d) (ms s) ≡ true → ok s a ≡ true)
       → Fits (then (told ms) (then (block_part b.0) silent)) (both (declared_block d b.0) nothing) (λ s. with_two (numbered_block b.0 s) (block_where_given None) (f s))
@@ -346,7 +346,7 @@ module _ (t : Tables) (d : ℕ) where
   }
 
   two_blocks_some : (b c : ProvedBlock) (ms : Scope → List Mention) (ok : Scope → Around → Bool) (f : Scope → NumberedBlock → Option NumberedBlock → NumberedForm) (z : Scope → NumberedBlock → Option NumberedBlock → Layer)
-      → ((s : Scope) (x : NumberedBlock) (y : Option NumberedBlock) → form.roll-Form ℕ (Raw Entry) (z s x y) ≡ f s x y)
+      → ((s : Scope) (x : NumberedBlock) (y : Option NumberedBlock) → form.roll-Form ℕ (Raw TableEntry) (z s x y) ≡ f s x y)
       → ((s : Scope) (x y : NumberedBlock) (a : Around) → layer_fits (z s x (Some y)) a ≡ alone (ok s a && ((block_fit x a).fits && (block_fit y a).fits)) a)
       → ((s : Scope) (a : Around) → a.domain ≡ d → AllNamed (StandsAround a) s.visible → list_all (is_sound t d) (ms s) ≡ true → ok s a ≡ true)
       → Fits (then (told ms) (then (block_part b.0) (block_part c.0))) (both (declared_block d b.0) (declared_block d c.0)) (λ s. with_two (numbered_block b.0 s) (block_where_given (Some (numbered_block c.0))) (f s))
@@ -396,8 +396,8 @@ module _ (t : Tables) (d : ℕ) where
   abbrev SourceLayer : Type 0
   SourceLayer = Form-F Name (Raw Name) SourceForm SourceBlock SourceStmt
 
-  abbrev parts_of : SourceLayer → Form-F Name (Raw Name) Part Part Part
-  parts_of = form.map-Form Name (Raw Name) SourceForm SourceBlock SourceStmt Part Part Part form_part block_part stmt_part
+  abbrev parts_of : SourceLayer → Form-F Name (Raw Name) NamedPart NamedPart NamedPart
+  parts_of = form.map-Form Name (Raw Name) SourceForm SourceBlock SourceStmt NamedPart NamedPart NamedPart form_part block_part stmt_part
 
   abbrev declared_of : SourceLayer → Form-F Name (Raw Name) Declared Declared Declared
   declared_of = form.map-Form Name (Raw Name) SourceForm SourceBlock SourceStmt Declared Declared Declared (declared_form d) (declared_block d) (declared_stmt d)
@@ -407,7 +407,7 @@ module _ (t : Tables) (d : ℕ) where
 
   form_by : (z : SourceLayer) → Fits (form_layer (parts_of z)) (declared_form_layer d (declared_of z)) (numbered_form_layer (numbered_of z)) → OfForm (form.roll-Form Name (Raw Name) z)
   form_by z h =
-      subst (λ p. Fits p (declared_form d (form.roll-Form Name (Raw Name) z)) (numbered_form (form.roll-Form Name (Raw Name) z))) (sym (fold-roll-Form Name (Raw Name) Part Part Part form_layer block_layer stmt_layer z))
+      subst (λ p. Fits p (declared_form d (form.roll-Form Name (Raw Name) z)) (numbered_form (form.roll-Form Name (Raw Name) z))) (sym (fold-roll-Form Name (Raw Name) NamedPart NamedPart NamedPart form_layer block_layer stmt_layer z))
       (subst (λ D. Fits (form_layer (parts_of z)) D (numbered_form (form.roll-Form Name (Raw Name) z))) (sym (fold-roll-Form Name (Raw Name) Declared Declared Declared (declared_form_layer d) declared_block_layer declared_stmt_layer z))
       (subst (λ q. Fits (form_layer (parts_of z)) (declared_form_layer d (declared_of z)) q) (sym (fold-roll-Form Name (Raw Name) FormPart BlockPart StmtPart numbered_form_layer numbered_block_layer numbered_stmt_layer z)) h))
 
@@ -427,23 +427,23 @@ module _ (t : Tables) (d : ℕ) where
   form_step (Form-F.Update at name sign_at op value) = form_by (Form-F.Update at name sign_at op value) (update_step at name sign_at op value)
   form_step (Form-F.If cond first None) =
       form_by (Form-F.If cond first.0 None)
-      (two_blocks_none first (expression_mentions cond) (λ s a. uses_entries t (scope_of a) (numbered_expression cond s)) (λ s. form.If (numbered_expression cond s)) (λ s. Form-F.If (numbered_expression cond s)) (λ s x y. form_is.rolls-If (numbered_expression cond s) x y) (λ s x a. refl) (raw_fits t d cond))
+      (two_blocks_none first (expression_mentions cond) (λ s a. uses_entries t (term_scope a) (numbered_expression cond s)) (λ s. form.If (numbered_expression cond s)) (λ s. Form-F.If (numbered_expression cond s)) (λ s x y. form_is.rolls-If (numbered_expression cond s) x y) (λ s x a. refl) (raw_fits t d cond))
   form_step (Form-F.If cond first (Some other)) =
       form_by (Form-F.If cond first.0 (Some other.0))
-      (two_blocks_some first other (expression_mentions cond) (λ s a. uses_entries t (scope_of a) (numbered_expression cond s)) (λ s. form.If (numbered_expression cond s)) (λ s. Form-F.If (numbered_expression cond s)) (λ s x y. form_is.rolls-If (numbered_expression cond s) x y) (λ s x y a. refl) (raw_fits t d cond))
+      (two_blocks_some first other (expression_mentions cond) (λ s a. uses_entries t (term_scope a) (numbered_expression cond s)) (λ s. form.If (numbered_expression cond s)) (λ s. Form-F.If (numbered_expression cond s)) (λ s x y. form_is.rolls-If (numbered_expression cond s) x y) (λ s x y a. refl) (raw_fits t d cond))
   form_step (Form-F.Present test first None) =
       form_by (Form-F.Present test first.0 None)
-      (two_blocks_none first (test_mentions test) (λ s a. fits_test t (scope_of a) (numbered_test test s)) (λ s. form.Present (numbered_test test s)) (λ s. Form-F.Present (numbered_test test s)) (λ s x y. form_is.rolls-Present (numbered_test test s) x y) (λ s x a. refl) (tests_fit t d test))
+      (two_blocks_none first (test_mentions test) (λ s a. fits_test t (term_scope a) (numbered_test test s)) (λ s. form.Present (numbered_test test s)) (λ s. Form-F.Present (numbered_test test s)) (λ s x y. form_is.rolls-Present (numbered_test test s) x y) (λ s x a. refl) (tests_fit t d test))
   form_step (Form-F.Present test first (Some other)) =
       form_by (Form-F.Present test first.0 (Some other.0))
-      (two_blocks_some first other (test_mentions test) (λ s a. fits_test t (scope_of a) (numbered_test test s)) (λ s. form.Present (numbered_test test s)) (λ s. Form-F.Present (numbered_test test s)) (λ s x y. form_is.rolls-Present (numbered_test test s) x y) (λ s x y a. refl) (tests_fit t d test))
+      (two_blocks_some first other (test_mentions test) (λ s a. fits_test t (term_scope a) (numbered_test test s)) (λ s. form.Present (numbered_test test s)) (λ s. Form-F.Present (numbered_test test s)) (λ s x y. form_is.rolls-Present (numbered_test test s) x y) (λ s x y a. refl) (tests_fit t d test))
   form_step (Form-F.While body) = form_by (Form-F.While body.0) (while_step body)
   form_step (Form-F.Abort weak immediate test body) =
       form_by (Form-F.Abort weak immediate test body.0)
-      (one_block body (test_mentions test) (λ s a. fits_test t (scope_of a) (numbered_test test s)) (λ s. form.Abort weak immediate (numbered_test test s)) (λ s. Form-F.Abort weak immediate (numbered_test test s)) (λ s x. form_is.rolls-Abort weak immediate (numbered_test test s) x) (λ s x a. refl) (tests_fit t d test))
+      (one_block body (test_mentions test) (λ s a. fits_test t (term_scope a) (numbered_test test s)) (λ s. form.Abort weak immediate (numbered_test test s)) (λ s. Form-F.Abort weak immediate (numbered_test test s)) (λ s x. form_is.rolls-Abort weak immediate (numbered_test test s) x) (λ s x a. refl) (tests_fit t d test))
   form_step (Form-F.Suspend immediate test body) =
       form_by (Form-F.Suspend immediate test body.0)
-      (one_block body (test_mentions test) (λ s a. fits_test t (scope_of a) (numbered_test test s)) (λ s. form.Suspend immediate (numbered_test test s)) (λ s. Form-F.Suspend immediate (numbered_test test s)) (λ s x. form_is.rolls-Suspend immediate (numbered_test test s) x) (λ s x a. refl) (tests_fit t d test))
+      (one_block body (test_mentions test) (λ s a. fits_test t (term_scope a) (numbered_test test s)) (λ s. form.Suspend immediate (numbered_test test s)) (λ s. Form-F.Suspend immediate (numbered_test test s)) (λ s x. form_is.rolls-Suspend immediate (numbered_test test s) x) (λ s x a. refl) (tests_fit t d test))
   form_step (Form-F.Trap at name body) = form_by (Form-F.Trap at name body.0) (trap_step at name body)
   form_step (Form-F.Exit at name) = form_by (Form-F.Exit at name) (exit_step at name)
   form_step (Form-F.Send at name value) = form_by (Form-F.Send at name value) (send_step at name value)
@@ -451,7 +451,7 @@ module _ (t : Tables) (d : ℕ) where
   form_step (Form-F.Await immediate test) = form_by (Form-F.Await immediate test) (await_step immediate test)
   form_step (Form-F.Every immediate test body) =
       form_by (Form-F.Every immediate test body.0)
-      (one_block body (test_mentions test) (λ s a. fits_test t (scope_of a) (numbered_test test s)) (λ s. form.Every immediate (numbered_test test s)) (λ s. Form-F.Every immediate (numbered_test test s)) (λ s x. form_is.rolls-Every immediate (numbered_test test s) x) (λ s x a. refl) (tests_fit t d test))
+      (one_block body (test_mentions test) (λ s a. fits_test t (term_scope a) (numbered_test test s)) (λ s. form.Every immediate (numbered_test test s)) (λ s. Form-F.Every immediate (numbered_test test s)) (λ s x. form_is.rolls-Every immediate (numbered_test test s) x) (λ s x a. refl) (tests_fit t d test))
   form_step (Form-F.Loop body test) = form_by (Form-F.Loop body.0 test) (loop_step body test)
 
   block_step : (at : ℕ) (ss : List ProvedStmt)
@@ -460,7 +460,7 @@ module _ (t : Tables) (d : ℕ) where
     scope = λ s. ap (closed_at (length s.visible)) (stmts_scope ss s);
     fits = λ s a h.
         let xs = (stmts_in_order (map numbered_stmt (stmts_of ss)) s).value in
-        ap (λ (f : fitting.Part). (f a).fits) (fold-roll-Block ℕ (Raw Entry) fitting.Part fitting.Part fitting.Part (form_fits t (entry_rules t)) (block_fits t (entry_rules t)) (stmt_fits t (entry_rules t)) (record { at = at; statements = xs }))
+        ap (λ (f : fitting.FittingPart). (f a).fits) (fold-roll-Block ℕ (Raw TableEntry) fitting.FittingPart fitting.FittingPart fitting.FittingPart (fits_form_layer t (entry_rules t)) (fits_block_layer t (entry_rules t)) (fits_stmt_layer t (entry_rules t)) (record { at = at; statements = xs }))
         ∙ all_stmts ss s a h;
   }
 
@@ -470,16 +470,16 @@ module _ (t : Tables) (d : ℕ) where
       by : (z : Block-F Name (Raw Name) SourceForm SourceBlock SourceStmt)
           → BlockFits t d block_fit (closed (in_order (map stmt_part z.statements))) (all (map (declared_stmt d) z.statements)) (λ s. closed_block z.at s (stmts_in_order (map numbered_stmt z.statements) s)) → OfBlock (block.roll-Block Name (Raw Name) z)
       by z h =
-          subst (λ p. BlockFits t d block_fit p (declared_block d (block.roll-Block Name (Raw Name) z)) (numbered_block (block.roll-Block Name (Raw Name) z))) (sym (fold-roll-Block Name (Raw Name) Part Part Part form_layer block_layer stmt_layer z))
+          subst (λ p. BlockFits t d block_fit p (declared_block d (block.roll-Block Name (Raw Name) z)) (numbered_block (block.roll-Block Name (Raw Name) z))) (sym (fold-roll-Block Name (Raw Name) NamedPart NamedPart NamedPart form_layer block_layer stmt_layer z))
           (subst (λ D. BlockFits t d block_fit (closed (in_order (map stmt_part z.statements))) D (numbered_block (block.roll-Block Name (Raw Name) z))) (sym (fold-roll-Block Name (Raw Name) Declared Declared Declared (declared_form_layer d) declared_block_layer declared_stmt_layer z))
           (subst (λ q. BlockFits t d block_fit (closed (in_order (map stmt_part z.statements))) (all (map (declared_stmt d) z.statements)) q) (sym (fold-roll-Block Name (Raw Name) FormPart BlockPart StmtPart numbered_form_layer numbered_block_layer numbered_stmt_layer z)) h))
 
-  stmt_step : (at : ℕ) (f : ProvedForm) → PartFits t d stmt_fit (form_part f.0) (declared_form d f.0) (λ s. record { value = stmt.roll-Stmt ℕ (Raw Entry) (record { at = at; form = (numbered_form f.0 s).value }); scope = (numbered_form f.0 s).scope })
+  stmt_step : (at : ℕ) (f : ProvedForm) → PartFits t d stmt_fit (form_part f.0) (declared_form d f.0) (λ s. record { value = stmt.roll-Stmt ℕ (Raw TableEntry) (record { at = at; form = (numbered_form f.0 s).value }); scope = (numbered_form f.0 s).scope })
   stmt_step at f = record {
     scope = λ s. f.1.scope s;
     fits = λ s a h.
         let x = (numbered_form f.0 s).value in
-        subst (λ r. Ended d r (form_part f.0 s).scope.visible) (sym (ap (λ (g : fitting.Part). g a) (fold-roll-Stmt ℕ (Raw Entry) fitting.Part fitting.Part fitting.Part (form_fits t (entry_rules t)) (block_fits t (entry_rules t)) (stmt_fits t (entry_rules t)) (record { at = at; form = x }))))
+        subst (λ r. Ended d r (form_part f.0 s).scope.visible) (sym (ap (λ (g : fitting.FittingPart). g a) (fold-roll-Stmt ℕ (Raw TableEntry) fitting.FittingPart fitting.FittingPart fitting.FittingPart (fits_form_layer t (entry_rules t)) (fits_block_layer t (entry_rules t)) (fits_stmt_layer t (entry_rules t)) (record { at = at; form = x }))))
         (f.1.fits s a h);
   }
 
@@ -487,9 +487,9 @@ module _ (t : Tables) (d : ℕ) where
   stmt_of y = by (stmt.map-Stmt Name (Raw Name) ProvedForm ProvedBlock ProvedStmt SourceForm SourceBlock SourceStmt (λ f. f.0) (λ b. b.0) (λ s. s.0) y) (stmt_step y.at y.form)
     where
       by : (z : Stmt-F Name (Raw Name) SourceForm SourceBlock SourceStmt)
-          → PartFits t d stmt_fit (form_part z.form) (declared_form d z.form) (λ s. record { value = stmt.roll-Stmt ℕ (Raw Entry) (record { at = z.at; form = (numbered_form z.form s).value }); scope = (numbered_form z.form s).scope }) → OfStmt (stmt.roll-Stmt Name (Raw Name) z)
+          → PartFits t d stmt_fit (form_part z.form) (declared_form d z.form) (λ s. record { value = stmt.roll-Stmt ℕ (Raw TableEntry) (record { at = z.at; form = (numbered_form z.form s).value }); scope = (numbered_form z.form s).scope }) → OfStmt (stmt.roll-Stmt Name (Raw Name) z)
       by z h =
-          subst (λ p. PartFits t d stmt_fit p (declared_stmt d (stmt.roll-Stmt Name (Raw Name) z)) (numbered_stmt (stmt.roll-Stmt Name (Raw Name) z))) (sym (fold-roll-Stmt Name (Raw Name) Part Part Part form_layer block_layer stmt_layer z))
+          subst (λ p. PartFits t d stmt_fit p (declared_stmt d (stmt.roll-Stmt Name (Raw Name) z)) (numbered_stmt (stmt.roll-Stmt Name (Raw Name) z))) (sym (fold-roll-Stmt Name (Raw Name) NamedPart NamedPart NamedPart form_layer block_layer stmt_layer z))
           (subst (λ D. PartFits t d stmt_fit (form_part z.form) D (numbered_stmt (stmt.roll-Stmt Name (Raw Name) z))) (sym (fold-roll-Stmt Name (Raw Name) Declared Declared Declared (declared_form_layer d) declared_block_layer declared_stmt_layer z))
           (subst (λ q. PartFits t d stmt_fit (form_part z.form) (declared_form d z.form) q) (sym (fold-roll-Stmt Name (Raw Name) FormPart BlockPart StmtPart numbered_form_layer numbered_block_layer numbered_stmt_layer z)) h))
 

@@ -8,12 +8,12 @@ use Rattle.kernel_terms.specs.declared.tables.VariableInfo.{VariableInfo}
 use Rattle.kernel_terms.specs.TableEntries.{no_variable, variable_at}
 use Rattle.kernel_terms.specs.WellFormed.{stands_in, same_kind, is_variable_of}
 use Rattle.sj_ast.specs.declared.name.Name.{Name}
-use Rattle.sj_names.specs.declared.mention.Sort.{Sort}
-use Rattle.sj_names.specs.declared.mention.Sort.TheVariants as sort
+use Rattle.sj_names.specs.declared.mention.NameSort.{NameSort}
+use Rattle.sj_names.specs.declared.mention.NameSort.TheVariants as sort
 use Rattle.sj_names.specs.declared.mention.Role.TheVariants as role
 use Rattle.sj_names.specs.declared.mention.Mention.{Mention}
 use Rattle.sj_names.specs.definitions.Scopes.{Named, Scope, meaning_in, declare, declared_where, count_of}
-use Rattle.sj_names.specs.definitions.Mentions.{Told, Part}
+use Rattle.sj_names.specs.definitions.Mentions.{Told, NamedPart}
 use Rattle.sj_names.specs.definitions.Failures.{own_failures}
 use Rattle.sj_names.specs.definitions.SoundTables.{is_sound}
 use Rattle.sj_names.specs.definitions.DeclaredTables.{Declared, both}
@@ -39,11 +39,11 @@ pub record Ended (d : ℕ) (r : Fitted) (vs : List Named) : Type 0 where
   pub domain : r.around.domain ≡ d
   pub visible : AllNamed (StandsAround r.around) vs
 
-pub record PartFits (t : Tables) (d : ℕ) {X : Type 0} (fit : X → fitting.Part) (p : Part) (D : Declared) (q : Scope → Numbered X) : Type 0 where
+pub record PartFits (t : Tables) (d : ℕ) {X : Type 0} (fit : X → fitting.FittingPart) (p : NamedPart) (D : Declared) (q : Scope → Numbered X) : Type 0 where
   pub scope : (s : Scope) → (q s).scope ≡ (p s).scope
   pub fits : (s : Scope) (a : Around) → Start t d s a D (p s).mentions → Ended d (fit (q s).value a) (p s).scope.visible
 
-pub record BlockFits (t : Tables) (d : ℕ) {X : Type 0} (fit : X → fitting.Part) (p : Part) (D : Declared) (q : Scope → Numbered X) : Type 0 where
+pub record BlockFits (t : Tables) (d : ℕ) {X : Type 0} (fit : X → fitting.FittingPart) (p : NamedPart) (D : Declared) (q : Scope → Numbered X) : Type 0 where
   pub scope : (s : Scope) → (q s).scope ≡ (p s).scope
   pub fits : (s : Scope) (a : Around) → Start t d s a D (p s).mentions → (fit (q s).value a).fits ≡ true
 
@@ -94,10 +94,10 @@ module _ (t : Tables) (d : ℕ) where
 
   -- names that are declared
 
-  pub number_new : (k : Sort) (name : Name) (s : Scope) → meaning_in s.visible name.text ≡ None → number_of (role.Declare k) name s ≡ count_of k s.counts
+  pub number_new : (k : NameSort) (name : Name) (s : Scope) → meaning_in s.visible name.text ≡ None → number_of (role.Declare k) name s ≡ count_of k s.counts
   number_new k name s e = ap (λ o. number_where (role.Declare k) o s.counts) e
 
-  pub visible_new : (P : Sort → ℕ → Type 0) (k : Sort) (name : List ℕ) (s : Scope) → meaning_in s.visible name ≡ None → AllNamed P s.visible → P k (count_of k s.counts) → AllNamed P (declare k name s).visible
+  pub visible_new : (P : NameSort → ℕ → Type 0) (k : NameSort) (name : List ℕ) (s : Scope) → meaning_in s.visible name ≡ None → AllNamed P s.visible → P k (count_of k s.counts) → AllNamed P (declare k name s).visible
   visible_new P k name s e v h = subst (λ o. AllNamed P (declared_where o k name s).visible) (sym e) (one_named_more P s.visible (record { name = name; meaning = record { sort = k; number = count_of k s.counts } }) v h)
 
   found_first : (n m : ℕ) (ns : List ℕ) → n ≡ m → stands_in m (n ∷ ns) ≡ true
@@ -114,7 +114,7 @@ module _ (t : Tables) (d : ℕ) where
       pick true y h = refl
       pick false y h = h
 
-  one_local_more : (n : ℕ) (a : Around) (k : Sort) (m : ℕ) → StandsAround a k m → StandsAround (with_local n a) k m
+  one_local_more : (n : ℕ) (a : Around) (k : NameSort) (m : ℕ) → StandsAround a k m → StandsAround (with_local n a) k m
   one_local_more n a sort.Local m h = found_later n m a.locals h
   one_local_more n a sort.Trap m h = h
   one_local_more n a sort.Input m h = tt
@@ -122,7 +122,7 @@ module _ (t : Tables) (d : ℕ) where
   one_local_more n a sort.Channel m h = tt
   one_local_more n a sort.Variable m h = tt
 
-  one_trap_more : (n : ℕ) (a : Around) (k : Sort) (m : ℕ) → StandsAround a k m → StandsAround (in_trap n a) k m
+  one_trap_more : (n : ℕ) (a : Around) (k : NameSort) (m : ℕ) → StandsAround a k m → StandsAround (in_trap n a) k m
   one_trap_more n a sort.Local m h = h
   one_trap_more n a sort.Trap m h = found_later n m a.traps h
   one_trap_more n a sort.Input m h = tt

@@ -7,8 +7,8 @@ use Rattle.sj_ast.specs.declared.expression.Raw.{Raw}
 use Rattle.sj_ast.specs.declared.port.Port.{Port}
 use Rattle.sj_ast.specs.declared.port.Port.TheVariants as port
 use Rattle.sj_ast.specs.declared.statement.Tree.{Tree}
-use Rattle.sj_names.specs.declared.mention.Sort.{Sort}
-use Rattle.sj_names.specs.declared.mention.Sort.TheVariants as sort
+use Rattle.sj_names.specs.declared.mention.NameSort.{NameSort}
+use Rattle.sj_names.specs.declared.mention.NameSort.TheVariants as sort
 use Rattle.sj_names.specs.declared.mention.Mention.{Mention}
 use Rattle.sj_names.specs.definitions.Scopes.{Scope, no_names}
 use Rattle.sj_names.specs.definitions.Mentions.{in_order, port_part, block_part, domain_mentions, interface_names, names_of_tree}
@@ -26,7 +26,7 @@ use Rattle.sj_names.proofs.FitValues.{StandsAround, first_holds, second_holds}
 use Rattle.sj_names.proofs.FitForms.{block_fit, block_numbers_fit}
 
 -- no local signal and no trap is visible where a domain starts
-port_around : (t : Tables) (ns : List (List Mention)) (d : ℕ) (s : Sort) (n : ℕ) → PortEntry t ns s n → StandsAround (at_start d) s n
+port_around : (t : Tables) (ns : List (List Mention)) (d : ℕ) (s : NameSort) (n : ℕ) → PortEntry t ns s n → StandsAround (at_start d) s n
 port_around t ns d sort.Input n h = tt
 port_around t ns d sort.Output n h = tt
 port_around t ns d sort.Channel n h = tt

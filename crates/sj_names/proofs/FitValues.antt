@@ -20,10 +20,10 @@ use Rattle.sj_ast.specs.declared.test.Test as signal_test
 use Rattle.sj_ast.specs.declared.test.Test.TheOpen.{Test-F}
 use Rattle.sj_ast.specs.declared.test.Test.TheFolds.{fold-roll-Test, ind-Test}
 use Rattle.sj_ast.specs.declared.test.Test.TheVariants as test_is
-use Rattle.sj_names.specs.declared.entry.Entry.{Entry}
-use Rattle.sj_names.specs.declared.entry.Entry.TheVariants as entry
-use Rattle.sj_names.specs.declared.mention.Sort.{Sort}
-use Rattle.sj_names.specs.declared.mention.Sort.TheVariants as sort
+use Rattle.sj_names.specs.declared.entry.TableEntry.{TableEntry}
+use Rattle.sj_names.specs.declared.entry.TableEntry.TheVariants as entry
+use Rattle.sj_names.specs.declared.mention.NameSort.{NameSort}
+use Rattle.sj_names.specs.declared.mention.NameSort.TheVariants as sort
 use Rattle.sj_names.specs.declared.mention.Role.TheVariants as role
 use Rattle.sj_names.specs.declared.mention.Meaning.{Meaning}
 use Rattle.sj_names.specs.declared.mention.Counts.{Counts}
@@ -33,12 +33,12 @@ use Rattle.sj_names.specs.definitions.Mentions.{mention, raw_layer, expression_m
 use Rattle.sj_names.specs.definitions.Failures.{is_channel, is_variable, is_trap, is_input}
 use Rattle.sj_names.specs.definitions.SoundTables.{is_port_of, is_signal_use, is_sound_use, is_sound_role, is_sound}
 use Rattle.sj_names.specs.definitions.NumberedTrees.{NumberedExpression, NumberedTest, number_where, number_of, entry_where, entry_of_sort, status_entry, numbered_raw_layer, numbered_expression, numbered_test_layer, numbered_test, numbered_value}
-use Rattle.sj_names.specs.definitions.FittingTrees.{Around, scope_of, fits_test_layer, fits_test, is_entry, fits_raw_layer, uses_entries, value_uses_entries}
+use Rattle.sj_names.specs.definitions.FittingTrees.{Around, term_scope, fits_test_layer, fits_test, is_entry, fits_raw_layer, uses_entries, value_uses_entries}
 use Rattle.sj_names.proofs.EntryLemmas.{AllNamed, meaning_named}
 use Rattle.sj_names.proofs.PartEntries.{pair_true}
 
 -- a visible local signal is one of those around, and so is a visible trap
-abbrev pub StandsAround : Around → Sort → ℕ → Type 0
+abbrev pub StandsAround : Around → NameSort → ℕ → Type 0
 StandsAround a sort.Local n = stands_in n a.locals ≡ true
 StandsAround a sort.Trap n = stands_in n a.traps ≡ true
 StandsAround a _ n = Unit {0}
@@ -81,11 +81,11 @@ module _ (t : Tables) (d : ℕ) where
   pub kept_around : (a : Around) (name : Name) (s : Scope) → AllNamed (StandsAround a) s.visible → KeptAround a (meaning_in s.visible name.text)
   kept_around a name s v k e = meaning_named (StandsAround a) s.visible name.text k v e
 
-  interface_use : (a : Around) (n : ℕ) → a.domain ≡ d → is_port_of t d n ≡ true → can_use t (scope_of a) n ≡ true
+  interface_use : (a : Around) (n : ℕ) → a.domain ≡ d → is_port_of t d n ≡ true → can_use t (term_scope a) n ≡ true
   interface_use a n e h =
       or_first (is_interface_of a.domain (signal_at t n)) (stands_in n a.locals) (ap (λ k. is_interface_of k (signal_at t n)) e ∙ second_holds (nat_lt n (length t.signals)) (is_interface_of d (signal_at t n)) h)
 
-  usable : (a : Around) (s : Sort) (n : ℕ) → a.domain ≡ d → is_signal_use t d s n ≡ true → StandsAround a s n → can_use t (scope_of a) n ≡ true
+  usable : (a : Around) (s : NameSort) (n : ℕ) → a.domain ≡ d → is_signal_use t d s n ≡ true → StandsAround a s n → can_use t (term_scope a) n ≡ true
   usable a sort.Input n e h v = interface_use a n e (first_holds (is_port_of t d n) (entries.is_input (signal_at t n).sort) h)
   usable a sort.Output n e h v = interface_use a n e (first_holds (is_port_of t d n) (not (entries.is_input (signal_at t n).sort)) h)
   usable a sort.Local n e h v = or_second (is_interface_of a.domain (signal_at t n)) (stands_in n a.locals) v
@@ -93,7 +93,7 @@ module _ (t : Tables) (d : ℕ) where
   usable a sort.Variable n e h v = absurd (cc)
   usable a sort.Trap n e h v = absurd (cc)
 
-  emittable : (s : Sort) (n : ℕ) → is_signal_use t d s n ≡ true → not (is_input s) ≡ true → not (entries.is_input (signal_at t n).sort) ≡ true
+  emittable : (s : NameSort) (n : ℕ) → is_signal_use t d s n ≡ true → not (is_input s) ≡ true → not (entries.is_input (signal_at t n).sort) ≡ true
   emittable sort.Input n h i = absurd (cc)
   emittable sort.Output n h i = second_holds (is_port_of t d n) (not (entries.is_input (signal_at t n).sort)) h
   emittable sort.Local n h i =
@@ -105,14 +105,14 @@ module _ (t : Tables) (d : ℕ) where
 
   -- names, by their roles
 
-  emit_where : (a : Around) (o : Option Meaning) (c : Counts) → a.domain ≡ d → is_sound_role t d role.Emit o ≡ true → KeptAround a o → can_emit t (scope_of a) (number_where role.Emit o c) ≡ true
+  emit_where : (a : Around) (o : Option Meaning) (c : Counts) → a.domain ≡ d → is_sound_role t d role.Emit o ≡ true → KeptAround a o → can_emit t (term_scope a) (number_where role.Emit o c) ≡ true
   emit_where a None c e h v = absurd (cc)
   emit_where a (Some m) c e h v =
       let u = first_holds (is_signal_use t d m.sort m.number) (not (is_input m.sort)) h in
       let i = second_holds (is_signal_use t d m.sort m.number) (not (is_input m.sort)) h in
-      pair_true (can_use t (scope_of a) m.number) (not (entries.is_input (signal_at t m.number).sort)) (usable a m.sort m.number e u (v m refl)) (emittable m.sort m.number u i)
+      pair_true (can_use t (term_scope a) m.number) (not (entries.is_input (signal_at t m.number).sort)) (usable a m.sort m.number e u (v m refl)) (emittable m.sort m.number u i)
 
-  test_where : (a : Around) (o : Option Meaning) (c : Counts) → a.domain ≡ d → is_sound_role t d role.Test o ≡ true → KeptAround a o → can_use t (scope_of a) (number_where role.Test o c) ≡ true
+  test_where : (a : Around) (o : Option Meaning) (c : Counts) → a.domain ≡ d → is_sound_role t d role.Test o ≡ true → KeptAround a o → can_use t (term_scope a) (number_where role.Test o c) ≡ true
   test_where a None c e h v = absurd (cc)
   test_where a (Some m) c e h v = usable a m.sort m.number e h (v m refl)
 
@@ -128,7 +128,7 @@ module _ (t : Tables) (d : ℕ) where
   receive_where a None c e h = absurd (cc)
   receive_where a (Some m) c e h = ap (λ k. is_receiver_of t k m.number) e ∙ second_holds (is_channel m.sort) (is_receiver_of t d m.number) h
 
-  trap_of_sort : (a : Around) (s : Sort) (n : ℕ) → is_trap s ≡ true → StandsAround a s n → stands_in n a.traps ≡ true
+  trap_of_sort : (a : Around) (s : NameSort) (n : ℕ) → is_trap s ≡ true → StandsAround a s n → stands_in n a.traps ≡ true
   trap_of_sort a sort.Trap n h v = v
   trap_of_sort a sort.Input n h v = absurd (cc)
   trap_of_sort a sort.Output n h v = absurd (cc)
@@ -140,7 +140,7 @@ module _ (t : Tables) (d : ℕ) where
   exit_where a None c h v = absurd (cc)
   exit_where a (Some m) c h v = trap_of_sort a m.sort m.number h (v m refl)
 
-  status_of_sort : (a : Around) (s : Sort) (n : ℕ) → a.domain ≡ d → is_sound_use t d role.Status (record { sort = s; number = n }) ≡ true → StandsAround a s n → is_entry t (scope_of a) (entry_of_sort s n) ≡ true
+  status_of_sort : (a : Around) (s : NameSort) (n : ℕ) → a.domain ≡ d → is_sound_use t d role.Status (record { sort = s; number = n }) ≡ true → StandsAround a s n → is_entry t (term_scope a) (entry_of_sort s n) ≡ true
   status_of_sort a sort.Channel n e h v = ap (λ k. is_receiver_of t k n) e ∙ h
   status_of_sort a sort.Input n e h v = usable a sort.Input n e h v
   status_of_sort a sort.Output n e h v = usable a sort.Output n e h v
@@ -148,11 +148,11 @@ module _ (t : Tables) (d : ℕ) where
   status_of_sort a sort.Variable n e h v = absurd (cc)
   status_of_sort a sort.Trap n e h v = absurd (cc)
 
-  status_where : (a : Around) (o : Option Meaning) (c : Counts) → a.domain ≡ d → is_sound_role t d role.Status o ≡ true → KeptAround a o → is_entry t (scope_of a) (entry_where o (number_where role.Status o c)) ≡ true
+  status_where : (a : Around) (o : Option Meaning) (c : Counts) → a.domain ≡ d → is_sound_role t d role.Status o ≡ true → KeptAround a o → is_entry t (term_scope a) (entry_where o (number_where role.Status o c)) ≡ true
   status_where a None c e h v = absurd (cc)
   status_where a (Some m) c e h v = status_of_sort a m.sort m.number e h (v m refl)
 
-  pub emit_fits : (a : Around) (name : Name) (s : Scope) → a.domain ≡ d → AllNamed (StandsAround a) s.visible → is_sound t d (mention role.Emit name s) ≡ true → can_emit t (scope_of a) (number_of role.Emit name s) ≡ true
+  pub emit_fits : (a : Around) (name : Name) (s : Scope) → a.domain ≡ d → AllNamed (StandsAround a) s.visible → is_sound t d (mention role.Emit name s) ≡ true → can_emit t (term_scope a) (number_of role.Emit name s) ≡ true
   emit_fits a name s e v h = emit_where a (meaning_in s.visible name.text) s.counts e h (kept_around a name s v)
 
   pub variable_fits : (a : Around) (name : Name) (s : Scope) → a.domain ≡ d → is_sound t d (mention role.Variable name s) ≡ true → is_variable_of t a.domain (number_of role.Variable name s) ≡ true
@@ -173,18 +173,18 @@ module _ (t : Tables) (d : ℕ) where
   Where ms fits = (s : Scope) (a : Around) → a.domain ≡ d → AllNamed (StandsAround a) s.visible → list_all (is_sound t d) (ms s) ≡ true → fits s a ≡ true
 
   abbrev RawFits : Raw Name → Type 0
-  RawFits e = Where (expression_mentions e) (λ s a. uses_entries t (scope_of a) (numbered_expression e s))
+  RawFits e = Where (expression_mentions e) (λ s a. uses_entries t (term_scope a) (numbered_expression e s))
 
   abbrev plain_raw : Raw-F Name ((e : Raw Name) × RawFits e) → Raw-F Name (Raw Name)
   plain_raw = raw.map-Raw Name ((e : Raw Name) × RawFits e) (Raw Name) (λ e. e.0)
 
   -- what an expression mentions, and its numbers, by its layer
   raw_by : (y : Raw-F Name (Raw Name)) (ms : Scope → List Mention) (fits : Scope → Around → Bool)
-      → expression_mentions (raw.roll-Raw Name y) ≡ ms → ((s : Scope) (a : Around) → uses_entries t (scope_of a) (numbered_expression (raw.roll-Raw Name y) s) ≡ fits s a) → Where ms fits → RawFits (raw.roll-Raw Name y)
+      → expression_mentions (raw.roll-Raw Name y) ≡ ms → ((s : Scope) (a : Around) → uses_entries t (term_scope a) (numbered_expression (raw.roll-Raw Name y) s) ≡ fits s a) → Where ms fits → RawFits (raw.roll-Raw Name y)
   raw_by y ms fits m f w s a e v h = f s a ∙ w s a e v (ap (λ (g : Scope → List Mention). list_all (is_sound t d) (g s)) (sym m) ∙ h)
 
-  abbrev uses : Around → Raw Entry → Bool
-  uses a = uses_entries t (scope_of a)
+  abbrev uses : Around → Raw TableEntry → Bool
+  uses a = uses_entries t (term_scope a)
 
   numbers_of : (y : Raw-F Name (Raw Name)) (s : Scope) → numbered_expression (raw.roll-Raw Name y) s ≡ numbered_raw_layer (raw.map-Raw Name (Raw Name) (Scope → NumberedExpression) numbered_expression y) s
   numbers_of y s = ap (λ (f : Scope → NumberedExpression). f s) (fold-roll-Raw Name (Scope → NumberedExpression) numbered_raw_layer y)
@@ -192,8 +192,8 @@ module _ (t : Tables) (d : ℕ) where
   mentions_of : (y : Raw-F Name (Raw Name)) → expression_mentions (raw.roll-Raw Name y) ≡ raw_layer (raw.map-Raw Name (Raw Name) (Scope → List Mention) expression_mentions y)
   mentions_of y = fold-roll-Raw Name (Scope → List Mention) raw_layer y
 
-  uses_of : (y : Raw-F Entry (Raw Entry)) (a : Around) → uses a (raw.roll-Raw Entry y) ≡ fits_raw_layer t (scope_of a) (raw.map-Raw Entry (Raw Entry) Bool (uses a) y)
-  uses_of y a = fold-roll-Raw Entry Bool (fits_raw_layer t (scope_of a)) y
+  uses_of : (y : Raw-F TableEntry (Raw TableEntry)) (a : Around) → uses a (raw.roll-Raw TableEntry y) ≡ fits_raw_layer t (term_scope a) (raw.map-Raw TableEntry (Raw TableEntry) Bool (uses a) y)
+  uses_of y a = fold-roll-Raw TableEntry Bool (fits_raw_layer t (term_scope a)) y
 
   raw_step : (y : Raw-F Name ((e : Raw Name) × RawFits e)) → RawFits (raw.roll-Raw Name (plain_raw y))
   raw_step (Raw-F.Literal at x) =
@@ -207,7 +207,7 @@ module _ (t : Tables) (d : ℕ) where
       (λ s a. ap (uses a) (numbers_of (Raw-F.Variable at name) s ∙ sym (raw_is.rolls-Variable at (entry.Variable (number_of role.Variable name s)))) ∙ uses_of (Raw-F.Variable at (entry.Variable (number_of role.Variable name s))) a)
       (λ s a e v h. variable_fits a name s e (one_holds (is_sound t d) (mention role.Variable name s) [] h))
   raw_step (Raw-F.Status at name_at name) =
-      raw_by (Raw-F.Status at name_at name) (λ s. mention role.Status name s ∷ []) (λ s a. is_entry t (scope_of a) (status_entry name s)) (mentions_of (Raw-F.Status at name_at name))
+      raw_by (Raw-F.Status at name_at name) (λ s. mention role.Status name s ∷ []) (λ s a. is_entry t (term_scope a) (status_entry name s)) (mentions_of (Raw-F.Status at name_at name))
       (λ s a. ap (uses a) (numbers_of (Raw-F.Status at name_at name) s ∙ sym (raw_is.rolls-Status at name_at (status_entry name s))) ∙ uses_of (Raw-F.Status at name_at (status_entry name s)) a)
       (λ s a e v h. status_where a (meaning_in s.visible name.text) s.counts e (one_holds (is_sound t d) (mention role.Status name s) [] h) (kept_around a name s v))
   raw_step (Raw-F.Unary at op x) =
@@ -228,21 +228,21 @@ module _ (t : Tables) (d : ℕ) where
   pub raw_fits : (e : Raw Name) → RawFits e
   raw_fits = ind-Raw Name RawFits (λ x y is. subst (λ z. RawFits (raw.roll-Raw Name z)) is (raw_step y))
 
-  pub value_fits : (o : Option (Raw Name)) (s : Scope) (a : Around) → a.domain ≡ d → AllNamed (StandsAround a) s.visible → list_all (is_sound t d) (read_where_given o s).mentions ≡ true → value_uses_entries t (scope_of a) (numbered_value o s) ≡ true
+  pub value_fits : (o : Option (Raw Name)) (s : Scope) (a : Around) → a.domain ≡ d → AllNamed (StandsAround a) s.visible → list_all (is_sound t d) (read_where_given o s).mentions ≡ true → value_uses_entries t (term_scope a) (numbered_value o s) ≡ true
   value_fits None s a e v h = refl
   value_fits (Some x) s a e v h = raw_fits x s a e v h
 
   -- tests
 
   abbrev TestFits : Test Name → Type 0
-  TestFits x = Where (test_mentions x) (λ s a. fits_test t (scope_of a) (numbered_test x s))
+  TestFits x = Where (test_mentions x) (λ s a. fits_test t (term_scope a) (numbered_test x s))
 
   test_by : (y : Test-F Name (Test Name)) (ms : Scope → List Mention) (fits : Scope → Around → Bool)
-      → test_mentions (signal_test.roll-Test Name y) ≡ ms → ((s : Scope) (a : Around) → fits_test t (scope_of a) (numbered_test (signal_test.roll-Test Name y) s) ≡ fits s a) → Where ms fits → TestFits (signal_test.roll-Test Name y)
+      → test_mentions (signal_test.roll-Test Name y) ≡ ms → ((s : Scope) (a : Around) → fits_test t (term_scope a) (numbered_test (signal_test.roll-Test Name y) s) ≡ fits s a) → Where ms fits → TestFits (signal_test.roll-Test Name y)
   test_by y ms fits m f w s a e v h = f s a ∙ w s a e v (ap (λ (g : Scope → List Mention). list_all (is_sound t d) (g s)) (sym m) ∙ h)
 
   abbrev tests : Around → Test ℕ → Bool
-  tests a = fits_test t (scope_of a)
+  tests a = fits_test t (term_scope a)
 
   test_numbers_of : (y : Test-F Name (Test Name)) (s : Scope) → numbered_test (signal_test.roll-Test Name y) s ≡ numbered_test_layer (signal_test.map-Test Name (Test Name) (Scope → NumberedTest) numbered_test y) s
   test_numbers_of y s = ap (λ (f : Scope → NumberedTest). f s) (fold-roll-Test Name (Scope → NumberedTest) numbered_test_layer y)
@@ -250,8 +250,8 @@ module _ (t : Tables) (d : ℕ) where
   test_mentions_of : (y : Test-F Name (Test Name)) → test_mentions (signal_test.roll-Test Name y) ≡ test_layer (signal_test.map-Test Name (Test Name) (Scope → List Mention) test_mentions y)
   test_mentions_of y = fold-roll-Test Name (Scope → List Mention) test_layer y
 
-  tests_of : (y : Test-F ℕ (Test ℕ)) (a : Around) → tests a (signal_test.roll-Test ℕ y) ≡ fits_test_layer t (scope_of a) (signal_test.map-Test ℕ (Test ℕ) Bool (tests a) y)
-  tests_of y a = fold-roll-Test ℕ Bool (fits_test_layer t (scope_of a)) y
+  tests_of : (y : Test-F ℕ (Test ℕ)) (a : Around) → tests a (signal_test.roll-Test ℕ y) ≡ fits_test_layer t (term_scope a) (signal_test.map-Test ℕ (Test ℕ) Bool (tests a) y)
+  tests_of y a = fold-roll-Test ℕ Bool (fits_test_layer t (term_scope a)) y
 
   two_tests : (l r : (x : Test Name) × TestFits x) → Where (λ s. test_mentions l.0 s ++ test_mentions r.0 s) (λ s a. tests a (numbered_test l.0 s) && tests a (numbered_test r.0 s))
   two_tests l r s a e v h =
@@ -259,7 +259,7 @@ module _ (t : Tables) (d : ℕ) where
 
   test_step : (y : Test-F Name ((x : Test Name) × TestFits x)) → TestFits (signal_test.roll-Test Name (signal_test.map-Test Name ((x : Test Name) × TestFits x) (Test Name) (λ x. x.0) y))
   test_step (Test-F.Signal at name) =
-      test_by (Test-F.Signal at name) (λ s. mention role.Test name s ∷ []) (λ s a. can_use t (scope_of a) (number_of role.Test name s)) (test_mentions_of (Test-F.Signal at name))
+      test_by (Test-F.Signal at name) (λ s. mention role.Test name s ∷ []) (λ s a. can_use t (term_scope a) (number_of role.Test name s)) (test_mentions_of (Test-F.Signal at name))
       (λ s a. ap (tests a) (test_numbers_of (Test-F.Signal at name) s ∙ sym (test_is.rolls-Signal at (number_of role.Test name s))) ∙ tests_of (Test-F.Signal at (number_of role.Test name s)) a)
       (λ s a e v h. test_where a (meaning_in s.visible name.text) s.counts e (one_holds (is_sound t d) (mention role.Test name s) [] h) (kept_around a name s v))
   test_step (Test-F.Not at x) =

@@ -7,7 +7,7 @@ use Rattle.std.proofs.lemmas.List.{map_more}
 use Rattle.sj_names.specs.declared.mention.Mention.{Mention}
 use Rattle.sj_names.specs.declared.mention.Use.TheVariants.{PortSignal, SendingEnd, Receive}
 use Rattle.sj_names.specs.declared.failure.Failure.{Failure}
-use Rattle.sj_names.specs.declared.failure.Fault.TheVariants.{ChannelEnds}
+use Rattle.sj_names.specs.declared.failure.FailureKind.TheVariants.{ChannelEnds}
 use Rattle.sj_names.specs.definitions.Failures.{least_of, lesser, where_true, failure_at, number_in, uses, shared_failure, shared_failures, domain_end_failures, end_failures, unjoined_failures, own_failures, owned_places, limit_failures, domain_limit_failures, too_many}
 use Rattle.sj_names.specs.FirstDomains.{lists}
 

@@ -16,13 +16,13 @@ use Rattle.kernel_terms.specs.WellFormed.{is_local_of, is_variable_of}
 use Rattle.sj_ast.specs.declared.name.Name.{Name}
 use Rattle.sj_ast.specs.declared.expression.Raw.{Raw}
 use Rattle.sj_ast.specs.declared.port.Signal.{Signal}
-use Rattle.sj_names.specs.declared.mention.Sort.{Sort}
-use Rattle.sj_names.specs.declared.mention.Sort.TheVariants as sort
+use Rattle.sj_names.specs.declared.mention.NameSort.{NameSort}
+use Rattle.sj_names.specs.declared.mention.NameSort.TheVariants as sort
 use Rattle.sj_names.specs.declared.mention.Role.TheVariants as role
 use Rattle.sj_names.specs.declared.mention.Meaning.{Meaning}
 use Rattle.sj_names.specs.declared.mention.Mention.{Mention}
 use Rattle.sj_names.specs.definitions.Scopes.{Named, Scope, meaning_in, declare, declared_where, count_of, counted}
-use Rattle.sj_names.specs.definitions.Mentions.{Told, Part, mention, silent, told, then, closed, declared, expression_mentions, new_variable}
+use Rattle.sj_names.specs.definitions.Mentions.{Told, NamedPart, mention, silent, told, then, closed, declared, expression_mentions, new_variable}
 use Rattle.sj_names.specs.definitions.Failures.{is_signal, is_variable, is_new, places_of, role_failures, own_failures}
 use Rattle.sj_names.specs.definitions.DeclaredTables.{Declared, nothing, both, signal_info}
 use Rattle.sj_names.proofs.ListedNames.{empty_first, empty_second}
@@ -117,7 +117,7 @@ abbrev pub is_own_variable : ℕ → VariableInfo → Bool
 is_own_variable d i = i.domain == d
 
 -- a part of the domain whose names have no failure declares this, where its entries stand in the tables
-pub record Declares (t : Tables) (ns : List (List Mention)) (d : ℕ) (p : Part) (D : Declared) : Type 0 where
+pub record Declares (t : Tables) (ns : List (List Mention)) (d : ℕ) (p : NamedPart) (D : Declared) : Type 0 where
   pub locals : list_all (is_own_signal d) D.signals ≡ true
   pub variables : list_all (is_own_variable d) D.variables ≡ true
   pub visible : (s : Scope) → Extends s.visible (p s).scope.visible
@@ -162,7 +162,7 @@ counts_then D E s u w a b = record {
   variable_places = ap length (places_both is_variable u.mentions w.mentions) ∙ length-append (places_of is_variable u.mentions) (places_of is_variable w.mentions) ∙ ap (λ n. n + length (places_of is_variable w.mentions)) a.variable_places ∙ ap (λ n. length D.variables + n) b.variable_places ∙ sym (length-append D.variables E.variables);
 }
 
-pub declares_then : (t : Tables) (ns : List (List Mention)) (d : ℕ) (p q : Part) (D E : Declared) → Declares t ns d p D → Declares t ns d q E → Declares t ns d (then p q) (both D E)
+pub declares_then : (t : Tables) (ns : List (List Mention)) (d : ℕ) (p q : NamedPart) (D E : Declared) → Declares t ns d p D → Declares t ns d q E → Declares t ns d (then p q) (both D E)
 declares_then t ns d p q D E a b = record {
   locals = list_all-append (is_own_signal d) D.signals E.signals ∙ pair_true (list_all (is_own_signal d) D.signals) (list_all (is_own_signal d) E.signals) a.locals b.locals;
   variables = list_all-append (is_own_variable d) D.variables E.variables ∙ pair_true (list_all (is_own_variable d) D.variables) (list_all (is_own_variable d) E.variables) a.variables b.variables;
@@ -184,13 +184,13 @@ nothing_behind : (D : Declared) → both D nothing ≡ D
 nothing_behind D = ap (λ l. let x : Declared = record { signals = l; variables = D.variables ++ [] } in x) (append-nil D.signals) ∙ ap (λ l. let x : Declared = record { signals = D.signals; variables = l } in x) (append-nil D.variables)
 
 -- names that are read, and then a part; a part, and then names that are read
-pub declares_behind : (t : Tables) (ns : List (List Mention)) (d : ℕ) (ms : Scope → List Mention) (p : Part) (D : Declared) → AreRead t ns d ms → Declares t ns d p D → Declares t ns d (then (told ms) p) D
+pub declares_behind : (t : Tables) (ns : List (List Mention)) (d : ℕ) (ms : Scope → List Mention) (p : NamedPart) (D : Declared) → AreRead t ns d ms → Declares t ns d p D → Declares t ns d (then (told ms) p) D
 declares_behind t ns d ms p D r a = subst (Declares t ns d (then (told ms) p)) (both_nothing D) (declares_then t ns d (told ms) p nothing D (declares_read t ns d ms r) a)
 
-pub declares_before : (t : Tables) (ns : List (List Mention)) (d : ℕ) (ms : Scope → List Mention) (p : Part) (D : Declared) → Declares t ns d p D → AreRead t ns d ms → Declares t ns d (then p (told ms)) D
+pub declares_before : (t : Tables) (ns : List (List Mention)) (d : ℕ) (ms : Scope → List Mention) (p : NamedPart) (D : Declared) → Declares t ns d p D → AreRead t ns d ms → Declares t ns d (then p (told ms)) D
 declares_before t ns d ms p D a r = subst (Declares t ns d (then p (told ms))) (nothing_behind D) (declares_then t ns d p (told ms) D nothing a (declares_read t ns d ms r))
 
-pub declares_closed : (t : Tables) (ns : List (List Mention)) (d : ℕ) (p : Part) (D : Declared) → Declares t ns d p D → Declares t ns d (closed p) D
+pub declares_closed : (t : Tables) (ns : List (List Mention)) (d : ℕ) (p : NamedPart) (D : Declared) → Declares t ns d p D → Declares t ns d (closed p) D
 declares_closed t ns d p D a = record {
   locals = a.locals;
   variables = a.variables;
@@ -201,21 +201,21 @@ declares_closed t ns d p D a = record {
 
 -- a name that is declared
 
-new_name : (s : Sort) (at : ℕ) (o : Option Meaning) → role_failures (role.Declare s) at o ≡ [] → o ≡ None
+new_name : (s : NameSort) (at : ℕ) (o : Option Meaning) → role_failures (role.Declare s) at o ≡ [] → o ≡ None
 new_name s at None h = refl
 new_name s at (Some m) h = absurd (cc)
 
 one_own : (m : Mention) (ms : List Mention) → flat_map own_failures (m ∷ ms) ≡ [] → own_failures m ≡ []
 one_own m ms h = empty_first (own_failures m) (flat_map own_failures ms) h
 
-pub not_visible : (s : Sort) (name : Name) (c : Scope) (ms : List Mention) → flat_map own_failures (mention (role.Declare s) name c ∷ ms) ≡ [] → meaning_in c.visible name.text ≡ None
+pub not_visible : (s : NameSort) (name : Name) (c : Scope) (ms : List Mention) → flat_map own_failures (mention (role.Declare s) name c ∷ ms) ≡ [] → meaning_in c.visible name.text ≡ None
 not_visible s name c ms h = new_name s name.at (meaning_in c.visible name.text) (one_own (mention (role.Declare s) name c) ms h)
 
-pub extends_declared : (o : Option Meaning) (s : Sort) (name : List ℕ) (c : Scope) → Extends c.visible (declared_where o s name c).visible
+pub extends_declared : (o : Option Meaning) (s : NameSort) (name : List ℕ) (c : Scope) → Extends c.visible (declared_where o s name c).visible
 extends_declared (Some m) s name c = extends_same c.visible
 extends_declared None s name c = record { more = record { name = name; meaning = record { sort = s; number = count_of s c.counts } } ∷ []; is = refl }
 
-counts_new : (s : Sort) (name : Name) (c : Scope) (more : List Mention) (D : Declared) → meaning_in c.visible name.text ≡ None → ((test : Sort → Bool) → places_of test more ≡ [])
+counts_new : (s : NameSort) (name : Name) (c : Scope) (more : List Mention) (D : Declared) → meaning_in c.visible name.text ≡ None → ((test : NameSort → Bool) → places_of test more ≡ [])
     → (counted s c.counts).signals ≡ c.counts.signals + length D.signals → (counted s c.counts).variables ≡ c.counts.variables + length D.variables
     → length (cond (is_signal s) (name.at ∷ []) []) ≡ length D.signals → length (cond (is_variable s) (name.at ∷ []) []) ≡ length D.variables
     → CountsFit D c (record { scope = declare s name.text c; mentions = mention (role.Declare s) name c ∷ more })
@@ -226,11 +226,11 @@ counts_new s name c more D e none a b x y = record {
   variable_places = ap length (ap (λ o. cond (is_new is_variable (role.Declare s) o) (name.at ∷ places_of is_variable more) (places_of is_variable more)) e ∙ ap (λ l. cond (is_variable s) (name.at ∷ l) l) (none is_variable)) ∙ y;
 }
 
-visible_new : (t : Tables) (ns : List (List Mention)) (d : ℕ) (s : Sort) (name : List ℕ) (c : Scope) → meaning_in c.visible name ≡ None → AllNamed (EntryOf t ns d) c.visible → EntryOf t ns d s (count_of s c.counts) → AllNamed (EntryOf t ns d) (declare s name c).visible
+visible_new : (t : Tables) (ns : List (List Mention)) (d : ℕ) (s : NameSort) (name : List ℕ) (c : Scope) → meaning_in c.visible name ≡ None → AllNamed (EntryOf t ns d) c.visible → EntryOf t ns d s (count_of s c.counts) → AllNamed (EntryOf t ns d) (declare s name c).visible
 visible_new t ns d s name c e v h =
     subst (λ o. AllNamed (EntryOf t ns d) (declared_where o s name c).visible) (sym e) (one_named_more (EntryOf t ns d) c.visible (record { name = name; meaning = record { sort = s; number = count_of s c.counts } }) v h)
 
-no_places : (test : Sort → Bool) → places_of test [] ≡ []
+no_places : (test : NameSort → Bool) → places_of test [] ≡ []
 no_places test = refl
 
 and_true : (a b c : Bool) → a ≡ true → b ≡ true → c ≡ true → (a && (b && c)) ≡ true

@@ -10,16 +10,16 @@ use Rattle.sj_ast.specs.declared.port.Port.{Port}
 use Rattle.sj_ast.specs.declared.port.Port.TheVariants as port
 use Rattle.sj_ast.specs.declared.port.Direction.{Direction}
 use Rattle.sj_ast.specs.declared.port.Direction.TheVariants as direction
-use Rattle.sj_names.specs.declared.mention.Sort.{Sort}
-use Rattle.sj_names.specs.declared.mention.Sort.TheVariants as sort
+use Rattle.sj_names.specs.declared.mention.NameSort.{NameSort}
+use Rattle.sj_names.specs.declared.mention.NameSort.TheVariants as sort
 use Rattle.sj_names.specs.declared.mention.Role.TheVariants as role
 use Rattle.sj_names.specs.declared.mention.Use.TheVariants as way
 use Rattle.sj_names.specs.declared.mention.Mention.{Mention}
 use Rattle.sj_names.specs.declared.mention.Counts.{Counts}
 use Rattle.sj_names.specs.definitions.Scopes.{Scope, meaning_in, declare, declared_where, count_of, counted, one_signal_more}
 use Rattle.sj_names.specs.definitions.Mentions.{Told, mention, in_order, signal_sort, port_part}
-use Rattle.sj_names.specs.definitions.Failures.{is_port_signal, is_channel, is_new, places_of, own_failures}
-use Rattle.sj_names.specs.definitions.DeclaredTables.{sort_of, signal_info, first_domain, port_signals, port_channels}
+use Rattle.sj_names.specs.definitions.Failures.{is_port_signal, is_channel, is_new, places_of, own_failures, first_domain}
+use Rattle.sj_names.specs.definitions.DeclaredTables.{sort_of, signal_info, port_signals, port_channels}
 use Rattle.sj_names.proofs.ListedNames.{empty_second}
 use Rattle.sj_names.proofs.EntryLemmas.{SignalEntry, ChannelEntry, PortEntry, AllNamed, one_named_more}
 use Rattle.sj_names.proofs.PartEntries.{StandsAt, stands_second, entry_there, not_visible}
@@ -41,11 +41,11 @@ step_more n m = omega arith
 one_step : (n m : ℕ) → n ≡ m → n + 1 ≡ suc m
 one_step n m e = omega arith
 
-named_new : (t : Tables) (ns : List (List Mention)) (s : Sort) (name : List ℕ) (c : Scope) → meaning_in c.visible name ≡ None → AllNamed (PortEntry t ns) c.visible → PortEntry t ns s (count_of s c.counts) → AllNamed (PortEntry t ns) (declare s name c).visible
+named_new : (t : Tables) (ns : List (List Mention)) (s : NameSort) (name : List ℕ) (c : Scope) → meaning_in c.visible name ≡ None → AllNamed (PortEntry t ns) c.visible → PortEntry t ns s (count_of s c.counts) → AllNamed (PortEntry t ns) (declare s name c).visible
 named_new t ns s name c e v h =
     subst (λ o. AllNamed (PortEntry t ns) (declared_where o s name c).visible) (sym e) (one_named_more (PortEntry t ns) c.visible (record { name = name; meaning = record { sort = s; number = count_of s c.counts } }) v h)
 
-counts_new : (s : Sort) (name : List ℕ) (c : Scope) → meaning_in c.visible name ≡ None → (declare s name c).counts ≡ counted s c.counts
+counts_new : (s : NameSort) (name : List ℕ) (c : Scope) → meaning_in c.visible name ≡ None → (declare s name c).counts ≡ counted s c.counts
 counts_new s name c e = ap (λ o. (declared_where o s name c).counts) e
 
 signal_there : (t : Tables) (ns : List (List Mention)) (n : ℕ) (i : SignalInfo) (more : List SignalInfo) → i.domain ≡ first_domain ns way.PortSignal n → drop n t.signals ≡ i ∷ more → SignalEntry t ns i.sort n
@@ -74,7 +74,7 @@ no_channel_sort direction.Input = refl
 no_channel_sort direction.Output = refl
 
 -- the places of a name that is new, and of more names
-places_new : (test : Sort → Bool) (s : Sort) (name : Name) (c : Scope) (ms : List Mention) → meaning_in c.visible name.text ≡ None → places_of test (mention (role.Declare s) name c ∷ ms) ≡ cond (test s) (name.at ∷ places_of test ms) (places_of test ms)
+places_new : (test : NameSort → Bool) (s : NameSort) (name : Name) (c : Scope) (ms : List Mention) → meaning_in c.visible name.text ≡ None → places_of test (mention (role.Declare s) name c ∷ ms) ≡ cond (test s) (name.at ∷ places_of test ms) (places_of test ms)
 places_new test s name c ms e = ap (λ o. cond (is_new test (role.Declare s) o) (name.at ∷ places_of test ms) (places_of test ms)) e
 
 pub ports_fit : (t : Tables) (ns : List (List Mention)) (s : Scope) (n c : ℕ) (ps : List (Port Name)) → flat_map own_failures (in_order (map port_part ps) s).mentions ≡ [] → s.counts.signals ≡ n → s.counts.channels ≡ c

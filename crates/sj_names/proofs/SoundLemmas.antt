@@ -23,9 +23,9 @@ use Rattle.sj_names.specs.declared.mention.Mention.{Mention}
 use Rattle.sj_names.specs.declared.mention.Use.TheVariants as way
 use Rattle.sj_names.specs.declared.failure.Failure.{Failure}
 use Rattle.sj_names.specs.definitions.Scopes.{Named, Scope, no_names}
-use Rattle.sj_names.specs.definitions.Mentions.{Part, TreeNames, form_layer, block_layer, stmt_layer, stmt_part, block_part, in_order, domain_mentions, interface_names, names_of_tree}
-use Rattle.sj_names.specs.definitions.Failures.{own_failures, uses, first_with, shared_failures, end_failures, unjoined_failures, too_many, domain_limit_failures, places_of, is_channel, is_port_signal, failures_of}
-use Rattle.sj_names.specs.definitions.DeclaredTables.{sort_of, first_domain, port_signals, port_channels, declared_block, declared_domains, tables_of_tree}
+use Rattle.sj_names.specs.definitions.Mentions.{NamedPart, TreeMentions, form_layer, block_layer, stmt_layer, stmt_part, block_part, in_order, domain_mentions, interface_names, names_of_tree}
+use Rattle.sj_names.specs.definitions.Failures.{own_failures, uses, first_with, shared_failures, end_failures, unjoined_failures, too_many, domain_limit_failures, places_of, is_channel, is_port_signal, failures_of, first_domain}
+use Rattle.sj_names.specs.definitions.DeclaredTables.{sort_of, port_signals, port_channels, declared_block, declared_domains, tables_of_tree}
 use Rattle.sj_names.specs.definitions.SoundTables.{has_domain, is_sound, are_sound}
 use Rattle.sj_names.proofs.ListedNames.{IsIn, Stands, empty_first, empty_second, nothing_of, all_names, first_below}
 use Rattle.sj_names.proofs.EndLemmas.{signal_owner, end_owner, AreJoined, joined, two_ends}
@@ -54,7 +54,7 @@ nothing_more (u ∷ us) (x ∷ xs) more h = nothing_more us xs more (tails h)
 pub block_same : (t : Tables) (ns : List (List Mention)) (d : ℕ) (b : SourceBlock) (s : Scope) → (block_part b s).scope.visible ≡ s.visible
 block_same t ns d b s =
     let e = (block_declares t ns d b).visible s in
-    let c = ap (λ (p : Part). (p s).scope.visible) (fold_out-Block Name (Raw Name) Part Part Part form_layer block_layer stmt_layer b) in
+    let c = ap (λ (p : NamedPart). (p s).scope.visible) (fold_out-Block Name (Raw Name) NamedPart NamedPart NamedPart form_layer block_layer stmt_layer b) in
     e.is ∙ ap (λ l. s.visible ++ l) (nothing_more s.visible (in_order (map stmt_part (block.out-Block Name (Raw Name) b).statements) s).scope.visible e.more (sym c ∙ e.is)) ∙ append-nil s.visible
 
 -- the names of the domains
@@ -85,7 +85,7 @@ are_sound_all t k [] h = refl
 are_sound_all t k (x ∷ xs) h = pair_true (list_all (is_sound t k) x) (are_sound t (suc k) xs) (h k x (inl (refl, refl))) (are_sound_all t (suc k) xs (λ d ms s. h d ms (inr s)))
 
 -- a tree has none of these failures
-pub record HasNoFailure (names : TreeNames) : Type 0 where
+pub record HasNoFailure (names : TreeMentions) : Type 0 where
   pub ports : flat_map own_failures names.ports ≡ []
   pub domains : flat_map (flat_map own_failures) names.domains ≡ []
   pub shared : shared_failures [] names.domains ≡ []
@@ -113,7 +113,7 @@ parts_empty a b c d e f g h x =
       empty_second g h r6,
     )
 
-pub no_failure : (names : TreeNames) → failures_of names ≡ [] → HasNoFailure names
+pub no_failure : (names : TreeMentions) → failures_of names ≡ [] → HasNoFailure names
 no_failure names h =
     let p = parts_empty (flat_map own_failures names.ports) (flat_map (flat_map own_failures) names.domains) (shared_failures [] names.domains) (end_failures [] names.domains) (unjoined_failures names.domains 0 (places_of is_channel names.ports))
     (too_many most_domains names.places) (too_many most_channels (places_of is_channel names.ports)) (domain_limit_failures names.domains (places_of is_port_signal names.ports) 0 names.domains) h in

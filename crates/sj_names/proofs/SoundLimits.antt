@@ -15,10 +15,11 @@ use Rattle.sj_ast.specs.declared.port.Port.{Port}
 use Rattle.sj_ast.specs.declared.port.Port.TheVariants as port
 use Rattle.sj_ast.specs.declared.statement.Block.{Block}
 use Rattle.sj_ast.specs.declared.statement.Tree.{Tree}
+use Rattle.sj_names.specs.declared.mention.Use.TheVariants as way
 use Rattle.sj_names.specs.declared.mention.Mention.{Mention}
 use Rattle.sj_names.specs.definitions.Scopes.{Scope}
 use Rattle.sj_names.specs.definitions.Mentions.{block_part, block_place, domain_mentions, interface_names, names_of_tree}
-use Rattle.sj_names.specs.definitions.Failures.{own_failures, first_failure, too_many, owner_of, owned_places, limit_failures, domain_limit_failures, places_of, is_channel, is_port_signal, is_signal, is_variable, failures_of}
+use Rattle.sj_names.specs.definitions.Failures.{own_failures, first_failure, too_many, first_domain, owned_places, limit_failures, domain_limit_failures, places_of, is_channel, is_port_signal, is_signal, is_variable, failures_of}
 use Rattle.sj_names.specs.definitions.DeclaredTables.{port_signals, declared_block, declared_domains, tables_of_tree}
 use Rattle.sj_names.proofs.ListedNames.{Stands, empty_first, empty_second}
 use Rattle.sj_names.proofs.PartEntries.{is_own_signal, is_own_variable, pair_true}
@@ -185,7 +186,7 @@ owned_count ns d n [] [] e = refl
 owned_count ns d n [] (at ∷ places) e = absurd (cc)
 owned_count ns d n (port.Channel c ∷ ps) places e = owned_count ns d n ps places e
 owned_count ns d n (port.Signal p ∷ ps) [] e = absurd (cc)
-owned_count ns d n (port.Signal p ∷ ps) (at ∷ places) e = split (owner_of ns n == d) (owned_count ns d (suc n) ps places (omega arith))
+owned_count ns d n (port.Signal p ∷ ps) (at ∷ places) e = split (first_domain ns way.PortSignal n == d) (owned_count ns d (suc n) ps places (omega arith))
   where
     split : (b : Bool) → count_where (in_signal d) (port_signals ns (suc n) ps) ≡ length (owned_places ns d (suc n) places)
         → cond b 1 0 + count_where (in_signal d) (port_signals ns (suc n) ps) ≡ length (cond b (at ∷ owned_places ns d (suc n) places) (owned_places ns d (suc n) places))

@@ -15,8 +15,8 @@ use Rattle.sj_ast.specs.declared.port.Port.TheVariants as port
 use Rattle.sj_ast.specs.declared.port.Direction.{Direction}
 use Rattle.sj_ast.specs.declared.port.Direction.TheVariants as direction
 use Rattle.sj_ast.specs.declared.statement.Tree.{Tree}
-use Rattle.sj_names.specs.declared.mention.Sort.{Sort}
-use Rattle.sj_names.specs.declared.mention.Sort.TheVariants as sort
+use Rattle.sj_names.specs.declared.mention.NameSort.{NameSort}
+use Rattle.sj_names.specs.declared.mention.NameSort.TheVariants as sort
 use Rattle.sj_names.specs.declared.mention.Role.TheVariants as role
 use Rattle.sj_names.specs.declared.mention.Mention.{Mention}
 use Rattle.sj_names.specs.definitions.Scopes.{Named, Scope, no_names, meaning_in, declare, declared_where, count_of}
@@ -151,11 +151,11 @@ unseen (v ∷ vs) name h = split (bytes_eq name v.name) h (λ g. unseen vs name 
     split true g f = absurd (cc)
     split false g f = f g
 
-visible_new : (s : Sort) (name : List ℕ) (c : Scope) → meaning_in c.visible name ≡ None → visible_in (declare s name c).visible ≡ visible_in c.visible ++ name ∷ []
+visible_new : (s : NameSort) (name : List ℕ) (c : Scope) → meaning_in c.visible name ≡ None → visible_in (declare s name c).visible ≡ visible_in c.visible ++ name ∷ []
 visible_new s name c e =
     ap (λ o. visible_in (declared_where o s name c).visible) e ∙ map-append (λ (v : Named). v.name) c.visible (record { name = name; meaning = record { sort = s; number = count_of s c.counts } } ∷ [])
 
-distinct_new : (s : Sort) (name : List ℕ) (c : Scope) → meaning_in c.visible name ≡ None → are_distinct (visible_in c.visible) ≡ true → are_distinct (visible_in (declare s name c).visible) ≡ true
+distinct_new : (s : NameSort) (name : List ℕ) (c : Scope) → meaning_in c.visible name ≡ None → are_distinct (visible_in c.visible) ≡ true → are_distinct (visible_in (declare s name c).visible) ≡ true
 distinct_new s name c e d =
     ap are_distinct (visible_new s name c e)
     ∙ inserted (visible_in c.visible) [] name (ap are_distinct (append-nil (visible_in c.visible)) ∙ d) (ap (list_any (bytes_eq name)) (append-nil (visible_in c.visible)) ∙ unseen c.visible name e)

@@ -7,15 +7,15 @@ use Rattle.kernel_terms.specs.declared.tables.Sort.TheVariants as table_sort
 use Rattle.kernel_terms.specs.TableEntries as entries
 use Rattle.kernel_terms.specs.TableEntries.{signal_at, channel_at, is_local, is_interface_of}
 use Rattle.kernel_terms.specs.WellFormed.{is_variable_of, is_sender_of, is_receiver_of}
-use Rattle.sj_names.specs.declared.mention.Sort.{Sort}
-use Rattle.sj_names.specs.declared.mention.Sort.TheVariants as sort
+use Rattle.sj_names.specs.declared.mention.NameSort.{NameSort}
+use Rattle.sj_names.specs.declared.mention.NameSort.TheVariants as sort
 use Rattle.sj_names.specs.declared.mention.Role.{Role}
 use Rattle.sj_names.specs.declared.mention.Role.TheVariants as role
 use Rattle.sj_names.specs.declared.mention.Use.TheVariants as way
 use Rattle.sj_names.specs.declared.mention.Meaning.{Meaning}
 use Rattle.sj_names.specs.declared.mention.Mention.{Mention}
 use Rattle.sj_names.specs.declared.failure.Failure.{Failure}
-use Rattle.sj_names.specs.declared.failure.Fault.TheVariants as fault
+use Rattle.sj_names.specs.declared.failure.FailureKind.TheVariants as fault
 use Rattle.sj_names.specs.definitions.Failures.{failure_at, where_true, is_port_signal, is_signal, is_channel, is_variable, is_input, fits, is_emission, use_failures, role_failures, own_failures, used, number_where, is_send, uses, first_with}
 use Rattle.sj_names.specs.definitions.SoundTables.{is_port_of, is_signal_use, is_sound_use, is_sound_role, is_sound}
 use Rattle.sj_names.proofs.EntryLemmas.{SignalEntry, ChannelEntry, EntryOf}
@@ -42,7 +42,7 @@ untrue true f h = absurd (cc)
 fits_use : (r : Role) (at : ℕ) (m : Meaning) → use_failures r at m ≡ [] → fits r m.sort ≡ true
 fits_use r at m h = fitting (fits r m.sort) (where_true (is_emission r && is_input m.sort) (failure_at fault.EmitInput at)) (failure_at fault.Unknown at) h
 
-used_number : (test : Sort → Bool) (r : Role) (m : Meaning) → fits r m.sort ≡ true → test m.sort ≡ true → number_where test (used r (Some m)) ≡ Some m.number
+used_number : (test : NameSort → Bool) (r : Role) (m : Meaning) → fits r m.sort ≡ true → test m.sort ≡ true → number_where test (used r (Some m)) ≡ Some m.number
 used_number test r m f h = ap (λ b. number_where test (cond b (Some m) None)) f ∙ ap (λ b. cond b (Some m.number) None) h
 
 -- signals
@@ -52,7 +52,7 @@ port_use t ns d n s l e o =
     pair_true (nat_lt n (length t.signals)) (is_interface_of d (signal_at t n)) e.0
     (pair_true ((signal_at t n).domain == d) (cond (is_local (signal_at t n).sort) false true) (ap (λ k. k == d) (e.2 ∙ ap (λ x. unwrap_or x 0) o) ∙ is_itself d) (ap (λ k. cond (is_local k) false true) e.1 ∙ ap (λ b. cond b false true) l))
 
-signal_sound : (t : Tables) (ns : List (List Mention)) (d : ℕ) (s : Sort) (n : ℕ) → is_signal s ≡ true → EntryOf t ns d s n → (is_port_signal s ≡ true → first_with (uses way.PortSignal n) 0 ns ≡ Some d) → is_signal_use t d s n ≡ true
+signal_sound : (t : Tables) (ns : List (List Mention)) (d : ℕ) (s : NameSort) (n : ℕ) → is_signal s ≡ true → EntryOf t ns d s n → (is_port_signal s ≡ true → first_with (uses way.PortSignal n) 0 ns ≡ Some d) → is_signal_use t d s n ≡ true
 signal_sound t ns d sort.Input n h e o = pair_true (is_port_of t d n) (entries.is_input (signal_at t n).sort) (port_use t ns d n table_sort.Input refl e (o refl)) (ap entries.is_input e.1)
 signal_sound t ns d sort.Output n h e o = pair_true (is_port_of t d n) (not (entries.is_input (signal_at t n).sort)) (port_use t ns d n table_sort.Output refl e (o refl)) (ap (λ k. not (entries.is_input k)) e.1)
 signal_sound t ns d sort.Local n h e o = e
@@ -62,7 +62,7 @@ signal_sound t ns d sort.Trap n h e o = absurd (cc)
 
 -- channels and variables
 
-channel_entry : (t : Tables) (ns : List (List Mention)) (d : ℕ) (s : Sort) (n : ℕ) → is_channel s ≡ true → EntryOf t ns d s n → ChannelEntry t ns n
+channel_entry : (t : Tables) (ns : List (List Mention)) (d : ℕ) (s : NameSort) (n : ℕ) → is_channel s ≡ true → EntryOf t ns d s n → ChannelEntry t ns n
 channel_entry t ns d sort.Channel n h e = e
 channel_entry t ns d sort.Input n h e = absurd (cc)
 channel_entry t ns d sort.Output n h e = absurd (cc)
@@ -70,7 +70,7 @@ channel_entry t ns d sort.Local n h e = absurd (cc)
 channel_entry t ns d sort.Variable n h e = absurd (cc)
 channel_entry t ns d sort.Trap n h e = absurd (cc)
 
-variable_entry : (t : Tables) (ns : List (List Mention)) (d : ℕ) (s : Sort) (n : ℕ) → is_variable s ≡ true → EntryOf t ns d s n → is_variable_of t d n ≡ true
+variable_entry : (t : Tables) (ns : List (List Mention)) (d : ℕ) (s : NameSort) (n : ℕ) → is_variable s ≡ true → EntryOf t ns d s n → is_variable_of t d n ≡ true
 variable_entry t ns d sort.Variable n h e = e
 variable_entry t ns d sort.Input n h e = absurd (cc)
 variable_entry t ns d sort.Output n h e = absurd (cc)

@@ -11,8 +11,8 @@ use Rattle.sj_ast.specs.declared.statement.Stmt as stmt
 use Rattle.sj_ast.specs.declared.statement.Form.TheOpen.{Form-F, Block-F, Stmt-F}
 use Rattle.sj_ast.specs.declared.statement.Form.TheFolds.{fold-roll-Form, fold-roll-Block, fold-roll-Stmt, ind-Block}
 use Rattle.sj_ast.specs.declared.statement.Tree.{Tree}
-use Rattle.sj_names.specs.declared.entry.Entry.{Entry}
-use Rattle.sj_names.specs.declared.mention.Sort.TheVariants as sort
+use Rattle.sj_names.specs.declared.entry.TableEntry.{TableEntry}
+use Rattle.sj_names.specs.declared.mention.NameSort.TheVariants as sort
 use Rattle.sj_names.specs.declared.mention.Role.TheVariants as role
 use Rattle.sj_names.specs.definitions.Scopes.{Scope, no_names, declare}
 use Rattle.sj_names.specs.definitions.NumberedTrees.{NumberedForm, NumberedBlock, NumberedStmt, BlockPart, StmtPart, FormPart, number_of, numbered_expression, numbered_test, numbered_value, numbered_signal, blocks_in_order, stmts_in_order, closed_block, numbered_form_layer, numbered_block_layer, numbered_stmt_layer, numbered_form, numbered_block, numbered_stmt, numbered_ports, numbered_tree}
@@ -74,7 +74,7 @@ abbrev SourceLayer : Type 0
 SourceLayer = Form-F Name (Raw Name) SourceForm SourceBlock SourceStmt
 
 abbrev Layer : Type 0
-Layer = Form-F ℕ (Raw Entry) NumberedForm NumberedBlock NumberedStmt
+Layer = Form-F ℕ (Raw TableEntry) NumberedForm NumberedBlock NumberedStmt
 
 abbrev numbered_of : SourceLayer → Form-F Name (Raw Name) FormPart BlockPart StmtPart
 numbered_of = form.map-Form Name (Raw Name) SourceForm SourceBlock SourceStmt FormPart BlockPart StmtPart numbered_form numbered_block numbered_stmt
@@ -83,14 +83,14 @@ abbrev source_depth : SourceLayer → ℕ
 source_depth z = form_depth_layer (form.map-Form Name (Raw Name) SourceForm SourceBlock SourceStmt ℕ ℕ ℕ form_trap_depth block_trap_depth stmt_trap_depth z)
 
 abbrev depth : Layer → ℕ
-depth z = form_depth_layer (form.map-Form ℕ (Raw Entry) NumberedForm NumberedBlock NumberedStmt ℕ ℕ ℕ form_trap_depth block_trap_depth stmt_trap_depth z)
+depth z = form_depth_layer (form.map-Form ℕ (Raw TableEntry) NumberedForm NumberedBlock NumberedStmt ℕ ℕ ℕ form_trap_depth block_trap_depth stmt_trap_depth z)
 
 -- the value that the layer has is that of another layer, whose parts are as deep
-form_by : (z : SourceLayer) (l : Scope → Layer) → ((s : Scope) → form.roll-Form ℕ (Raw Entry) (l s) ≡ (numbered_form_layer (numbered_of z) s).value) → ((s : Scope) → depth (l s) ≡ source_depth z) → OfForm (form.roll-Form Name (Raw Name) z)
+form_by : (z : SourceLayer) (l : Scope → Layer) → ((s : Scope) → form.roll-Form ℕ (Raw TableEntry) (l s) ≡ (numbered_form_layer (numbered_of z) s).value) → ((s : Scope) → depth (l s) ≡ source_depth z) → OfForm (form.roll-Form Name (Raw Name) z)
 form_by z l r e s =
     ap (λ (q : FormPart). form_trap_depth (q s).value) (fold-roll-Form Name (Raw Name) FormPart BlockPart StmtPart numbered_form_layer numbered_block_layer numbered_stmt_layer z)
     ∙ ap form_trap_depth (sym (r s))
-    ∙ fold-roll-Form ℕ (Raw Entry) ℕ ℕ ℕ form_depth_layer block_depth_layer stmt_depth_layer (l s)
+    ∙ fold-roll-Form ℕ (Raw TableEntry) ℕ ℕ ℕ form_depth_layer block_depth_layer stmt_depth_layer (l s)
     ∙ e s
     ∙ sym (fold-roll-Form Name (Raw Name) ℕ ℕ ℕ form_depth_layer block_depth_layer stmt_depth_layer z)
 
@@ -148,7 +148,7 @@ block_of : (y : Block-F Name (Raw Name) ProvedForm ProvedBlock ProvedStmt) → O
 block_of y s =
     let z = block.map-Block Name (Raw Name) ProvedForm ProvedBlock ProvedStmt SourceForm SourceBlock SourceStmt (λ f. f.0) (λ b. b.0) (λ x. x.0) y in
     ap (λ (q : BlockPart). block_trap_depth (q s).value) (fold-roll-Block Name (Raw Name) FormPart BlockPart StmtPart numbered_form_layer numbered_block_layer numbered_stmt_layer z)
-    ∙ fold-roll-Block ℕ (Raw Entry) ℕ ℕ ℕ form_depth_layer block_depth_layer stmt_depth_layer (record { at = y.at; statements = (stmts_in_order (map numbered_stmt (stmts_of y.statements)) s).value })
+    ∙ fold-roll-Block ℕ (Raw TableEntry) ℕ ℕ ℕ form_depth_layer block_depth_layer stmt_depth_layer (record { at = y.at; statements = (stmts_in_order (map numbered_stmt (stmts_of y.statements)) s).value })
     ∙ all_stmts y.statements s
     ∙ sym (fold-roll-Block Name (Raw Name) ℕ ℕ ℕ form_depth_layer block_depth_layer stmt_depth_layer z)
 
@@ -156,7 +156,7 @@ stmt_of : (y : Stmt-F Name (Raw Name) ProvedForm ProvedBlock ProvedStmt) → OfS
 stmt_of y s =
     let z = stmt.map-Stmt Name (Raw Name) ProvedForm ProvedBlock ProvedStmt SourceForm SourceBlock SourceStmt (λ f. f.0) (λ b. b.0) (λ x. x.0) y in
     ap (λ (q : StmtPart). stmt_trap_depth (q s).value) (fold-roll-Stmt Name (Raw Name) FormPart BlockPart StmtPart numbered_form_layer numbered_block_layer numbered_stmt_layer z)
-    ∙ fold-roll-Stmt ℕ (Raw Entry) ℕ ℕ ℕ form_depth_layer block_depth_layer stmt_depth_layer (record { at = y.at; form = (numbered_form y.form.0 s).value })
+    ∙ fold-roll-Stmt ℕ (Raw TableEntry) ℕ ℕ ℕ form_depth_layer block_depth_layer stmt_depth_layer (record { at = y.at; form = (numbered_form y.form.0 s).value })
     ∙ y.form.1 s
     ∙ sym (fold-roll-Stmt Name (Raw Name) ℕ ℕ ℕ form_depth_layer block_depth_layer stmt_depth_layer z)
 

@@ -12,13 +12,13 @@ use Rattle.sj_ast.specs.declared.port.Port as port
 use Rattle.sj_ast.specs.declared.port.Port.TheVariants as port_is
 use Rattle.sj_ast.specs.declared.statement.Stmt as stmt
 use Rattle.sj_ast.specs.declared.statement.Block as block
-use Rattle.sj_names.specs.declared.mention.Sort.{Sort}
-use Rattle.sj_names.specs.declared.mention.Sort.TheVariants as sort
+use Rattle.sj_names.specs.declared.mention.NameSort.{NameSort}
+use Rattle.sj_names.specs.declared.mention.NameSort.TheVariants as sort
 use Rattle.sj_names.specs.declared.mention.Role.{Role}
 use Rattle.sj_names.specs.declared.mention.Role.TheVariants as role
 use Rattle.sj_names.specs.declared.mention.Mention.{Mention}
 use Rattle.sj_names.specs.declared.failure.Failure.{Failure}
-use Rattle.sj_names.specs.definitions.Mentions.{TreeNames, names_of_tree}
+use Rattle.sj_names.specs.definitions.Mentions.{TreeMentions, names_of_tree}
 use Rattle.sj_names.specs.definitions.Failures.{least_of, failures_of}
 
 abbrev pub Statement : Type 0
@@ -41,17 +41,17 @@ abbrev pub channel_at : List ℕ → ℕ → port.Port Name
 channel_at text at = port_is.Channel (record { kind = Int; at = at; name = name_at text at })
 
 -- the names of a tree
-abbrev pub names_in : List (port.Port Name) → List Braces → TreeNames
-names_in ports domains = names_of_tree (record { ports = ports; domains = domains })
+abbrev pub names_of : List (port.Port Name) → List Braces → TreeMentions
+names_of ports domains = names_of_tree (record { ports = ports; domains = domains })
 
-abbrev pub names : List Mention → List (List Mention) → List ℕ → TreeNames
+abbrev pub names : List Mention → List (List Mention) → List ℕ → TreeMentions
 names ports domains places = record { ports = ports; domains = domains; places = places }
 
 -- a name at a place, in a role, that stands for nothing, or for a name of this sort and number
 abbrev pub unknown : ℕ → Role → Mention
 unknown at r = record { at = at; role = r; meaning = None }
 
-abbrev pub known : ℕ → Role → Sort → ℕ → Mention
+abbrev pub known : ℕ → Role → NameSort → ℕ → Mention
 known at r s n = record { at = at; role = r; meaning = Some (record { sort = s; number = n }) }
 
 abbrev pub input : ℕ → Mention
@@ -78,8 +78,8 @@ abbrev pub looks_at : ℕ → ℕ → Mention
 looks_at at = known at role.Status sort.Channel
 
 -- the first failure of names, in domains whose `{` stand at these places
-abbrev pub first_of : List Mention → List (List Mention) → List ℕ → Option Failure
-first_of ports domains places = least_of None (failures_of (names ports domains places))
+abbrev pub first_failure_of : List Mention → List (List Mention) → List ℕ → Option Failure
+first_failure_of ports domains places = least_of None (failures_of (names ports domains places))
 
 -- entries of tables
 abbrev pub pure_signal : List ℕ → ℕ → tables_sort.Sort → SignalInfo

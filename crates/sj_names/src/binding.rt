@@ -4,7 +4,7 @@ ghost use Rattle.sj_names.specs.definitions.FittingTrees.{fits_tree, entry_rules
 ghost use Rattle.sj_names.specs.definitions.NestedTraps.{traps_nest};
 ghost use Rattle.sj_names.specs.definitions.SoundTables.{AreSoundTables};
 
-use crate::entry::Entry;
+use crate::entry::TableEntry;
 use crate::failure::Failure;
 use java_values::NoMemory;
 use kernel_terms::Tables;
@@ -16,7 +16,7 @@ use thiserror::Error;
 /// domain, and traps nest at most 64 deep.
 #[derive(Debug, Drop)]
 pub struct Bound {
-    pub tree: Tree<u32, Raw<Entry>>,
+    pub tree: Tree<u32, Raw<TableEntry>>,
     pub tables: Tables,
     ghost fitting: { fits_tree tables (entry_rules tables) tree ≡ true },
     ghost sound: { AreSoundTables tables (length tree.domains) },

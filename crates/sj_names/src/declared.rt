@@ -1,7 +1,7 @@
 ghost use Rattle.std.specs.Prelude.{◌≡◌, ◌++◌, ◌∷◌, IfOk, map, drop};
 ghost use Rattle.sj_names.specs.definitions.DeclaredTables.{operator_of, combination_of, kind_of, combine_of, signal_info, both, all, declared_form, declared_block, declared_stmt, declared_other, declared_domains};
 
-use crate::ends::number_of;
+use crate::ends::number_at;
 use java_values::{Kind, NoMemory, Text};
 use kernel_terms::{Combine, SignalInfo, Sort, VariableInfo};
 use sj_ast::{Block, Combination, CombineOperator, Form, Name, Raw, Signal, Stmt, Valued};
@@ -203,7 +203,7 @@ impl Declarations {
             both (declared_in self.old) (declared_domains 0 domains.now)) }
     {
         for i in 0..domains.len() {
-            let domain = number_of(i)?;
+            let domain = number_at(i)?;
             self.block(alloc, domain, &domains[i])?;
         }
         Ok(())

@@ -5,7 +5,7 @@ ghost use Rattle.sj_names.specs.DomainNames.{names_in};
 ghost use Rattle.sj_names.specs.UsedHere.{AreHere};
 
 use crate::domains::Domains;
-use crate::failure::Fault;
+use crate::failure::FailureKind;
 use crate::least::Least;
 use crate::mention::{Mention, Use};
 use crate::uses::FirstUses;
@@ -13,7 +13,7 @@ use java_values::NoMemory;
 use std::alloc::Global;
 
 /// The number as one of names.
-pub fn number_of(index: usize) -> Result<u32, NoMemory>
+pub fn number_at(index: usize) -> Result<u32, NoMemory>
     ensures value { IfOk result (λ number. number ≡ index) }
     ensures full { IsErr result → 2 ^ 32 ≤ index }
 {
@@ -63,7 +63,7 @@ impl Least {
             None => {}
             Some(channel) => {
                 let wrong = domains.is_earlier(way, channel, domain) || here.get(channel).is_some();
-                self.add_where(wrong, mention.at, Fault::ChannelEnds);
+                self.add_where(wrong, mention.at, FailureKind::ChannelEnds);
             }
         }
     }
@@ -140,10 +140,10 @@ impl Least {
             least_of self.old.found (unjoined_failures (names_in domains.now) 0 places.now)) }
     {
         for i in 0..places.len() {
-            let channel = number_of(i)?;
+            let channel = number_at(i)?;
             let joined = domains.is_joined(channel);
             let at = places[i];
-            self.add_where(!joined, at, Fault::ChannelEnds);
+            self.add_where(!joined, at, FailureKind::ChannelEnds);
         }
         Ok(())
     }

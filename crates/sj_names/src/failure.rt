@@ -1,6 +1,6 @@
 /// What is wrong with a name. At one place the first of this list counts.
 #[derive(Clone, Copy, Debug, PartialEq, Eq)]
-pub enum Fault {
+pub enum FailureKind {
     /// No name of the needed sort is visible.
     Unknown,
     /// A declared name is visible already.
@@ -20,5 +20,5 @@ pub enum Fault {
 #[derive(Clone, Copy, Debug, PartialEq, Eq)]
 pub struct Failure {
     pub at: u32,
-    pub fault: Fault,
+    pub fault: FailureKind,
 }

@@ -2,16 +2,16 @@ ghost use Rattle.std.specs.Prelude.{◌≡◌};
 ghost use Rattle.std.specs.List.{flat_map};
 ghost use Rattle.sj_names.specs.definitions.Failures.{fits, is_in, is_port_signal, is_signal, is_channel, is_before, lesser, least_of, where_true, own_failures, use_failures, rank, failure_at};
 
-use crate::failure::{Failure, Fault};
-use crate::mention::{Group, Meaning, Mention, Role, Sort};
+use crate::failure::{Failure, FailureKind};
+use crate::mention::{Group, Meaning, Mention, NameSort, Role};
 
-impl Sort {
+impl NameSort {
     pub fn is_port_signal(self) -> bool
         ensures { result ≡ is_port_signal self }
     {
         match self {
-            Sort::Input | Sort::Output => true,
-            Sort::Local | Sort::Channel | Sort::Variable | Sort::Trap => false,
+            NameSort::Input | NameSort::Output => true,
+            NameSort::Local | NameSort::Channel | NameSort::Variable | NameSort::Trap => false,
         }
     }
 
@@ -19,8 +19,8 @@ impl Sort {
         ensures { result ≡ is_signal self }
     {
         match self {
-            Sort::Input | Sort::Output | Sort::Local => true,
-            Sort::Channel | Sort::Variable | Sort::Trap => false,
+            NameSort::Input | NameSort::Output | NameSort::Local => true,
+            NameSort::Channel | NameSort::Variable | NameSort::Trap => false,
         }
     }
 
@@ -28,13 +28,17 @@ impl Sort {
         ensures { result ≡ is_channel self }
     {
         match self {
-            Sort::Channel => true,
-            Sort::Input | Sort::Output | Sort::Local | Sort::Variable | Sort::Trap => false,
+            NameSort::Channel => true,
+            NameSort::Input
+            | NameSort::Output
+            | NameSort::Local
+            | NameSort::Variable
+            | NameSort::Trap => false,
         }
     }
 }
 
-impl Sort {
+impl NameSort {
     pub fn is_in(self, group: Group) -> bool
         ensures { result ≡ is_in group self }
     {
@@ -42,14 +46,14 @@ impl Sort {
             Group::PortSignal => self.is_port_signal(),
             Group::Signal => self.is_signal(),
             Group::Channel => self.is_channel(),
-            Group::Variable => matches!(self, Sort::Variable),
+            Group::Variable => matches!(self, NameSort::Variable),
         }
     }
 }
 
 impl Role {
     /// Whether a name of this sort may stand in this role.
-    pub fn fits(self, sort: Sort) -> bool
+    pub fn fits(self, sort: NameSort) -> bool
         ensures { result ≡ fits self sort }
     {
         match self {
@@ -57,23 +61,23 @@ impl Role {
             Role::Emit | Role::Test => sort.is_signal(),
             Role::Send | Role::Receive => sort.is_channel(),
             Role::Status => sort.is_signal() || sort.is_channel(),
-            Role::Exit => matches!(sort, Sort::Trap),
-            Role::Variable => matches!(sort, Sort::Variable),
+            Role::Exit => matches!(sort, NameSort::Trap),
+            Role::Variable => matches!(sort, NameSort::Variable),
         }
     }
 }
 
-impl Fault {
+impl FailureKind {
     fn rank(self) -> u8
         ensures { result ≡ rank self }
     {
         match self {
-            Fault::Unknown => 0,
-            Fault::Twice => 1,
-            Fault::SignalShared => 2,
-            Fault::EmitInput => 3,
-            Fault::ChannelEnds => 4,
-            Fault::TooMany => 5,
+            FailureKind::Unknown => 0,
+            FailureKind::Twice => 1,
+            FailureKind::SignalShared => 2,
+            FailureKind::EmitInput => 3,
+            FailureKind::ChannelEnds => 4,
+            FailureKind::TooMany => 5,
         }
     }
 }
@@ -94,7 +98,7 @@ pub struct Least {
 
 impl Least {
     /// One failure more.
-    pub fn add(&mut self, at: u32, fault: Fault)
+    pub fn add(&mut self, at: u32, fault: FailureKind)
         ensures { self.new.found ≡ lesser self.old.found (failure_at fault at) }
     {
         let failure = Failure { at, fault };
@@ -105,7 +109,7 @@ impl Least {
     }
 
     /// One more where the test holds.
-    pub fn add_where(&mut self, test: bool, at: u32, fault: Fault)
+    pub fn add_where(&mut self, test: bool, at: u32, fault: FailureKind)
         ensures { self.new.found ≡ least_of self.old.found (where_true test (failure_at fault at)) }
     {
         if test {
@@ -118,10 +122,10 @@ impl Least {
     {
         if role.fits(meaning.sort) {
             let emits = matches!(role, Role::Emit);
-            let input = matches!(meaning.sort, Sort::Input);
-            self.add_where(emits && input, at, Fault::EmitInput);
+            let input = matches!(meaning.sort, NameSort::Input);
+            self.add_where(emits && input, at, FailureKind::EmitInput);
         } else {
-            self.add(at, Fault::Unknown);
+            self.add(at, FailureKind::Unknown);
         }
     }
 
@@ -130,10 +134,10 @@ impl Least {
     {
         match mention.role {
             Role::Declare(_) => {
-                self.add_where(mention.meaning.is_some(), mention.at, Fault::Twice);
+                self.add_where(mention.meaning.is_some(), mention.at, FailureKind::Twice);
             }
             role => match mention.meaning {
-                None => self.add(mention.at, Fault::Unknown),
+                None => self.add(mention.at, FailureKind::Unknown),
                 Some(meaning) => self.add_use(role, mention.at, meaning),
             },
         }

@@ -26,9 +26,9 @@ mod uses;
 
 pub use bind_tree::bind;
 pub use binding::{BindError, Bound};
-pub use entry::Entry;
-pub use failure::{Failure, Fault};
-pub use mention::{Counts, Group, Meaning, Mention, Role, Sort, Use};
+pub use entry::TableEntry;
+pub use failure::{Failure, FailureKind};
+pub use mention::{Counts, Group, Meaning, Mention, NameSort, Role, Use};
 pub use numbering::numbered_tree;
 pub use program::TreeNames;
 pub use rows::{small_interfaces, small_limits, small_name_failures, small_tables};

@@ -3,7 +3,7 @@ ghost use Rattle.sj_names.specs.DomainNames.{names_in};
 ghost use Rattle.sj_names.specs.definitions.Failures.{is_in, is_new, least_of, places_of, is_signal, is_variable, too_many, limit_failures, domain_limit_failures};
 
 use crate::domains::Domains;
-use crate::failure::Fault;
+use crate::failure::FailureKind;
 use crate::least::Least;
 use crate::mention::{Group, Mention, Role};
 use java_values::NoMemory;
@@ -54,7 +54,7 @@ impl Least {
         ensures { self.new.found ≡ least_of self.old.found (too_many most places.now) }
     {
         if let Some(at) = places.get(most) {
-            self.add(*at, Fault::TooMany);
+            self.add(*at, FailureKind::TooMany);
         }
     }
 

@@ -1,6 +1,6 @@
 /// What a name is declared as.
 #[derive(Clone, Copy, Debug, PartialEq, Eq)]
-pub enum Sort {
+pub enum NameSort {
     Input,
     Output,
     /// A local signal.
@@ -14,14 +14,14 @@ pub enum Sort {
 /// are numbered as one.
 #[derive(Clone, Copy, Debug, PartialEq, Eq)]
 pub struct Meaning {
-    pub sort: Sort,
+    pub sort: NameSort,
     pub number: u32,
 }
 
 /// What is done where a name stands.
 #[derive(Clone, Copy, Debug, PartialEq, Eq)]
 pub enum Role {
-    Declare(Sort),
+    Declare(NameSort),
     /// `emit` and `sustain`
     Emit,
     Test,

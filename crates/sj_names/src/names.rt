@@ -3,36 +3,36 @@ ghost use Rattle.sj_names.specs.definitions.Scopes.{count_of, counted, no_names,
 ghost use Rattle.sj_names.specs.definitions.NumberedTrees.{number_where};
 ghost use Rattle.sj_names.specs.FoundNames.{AreFound, named};
 
-use crate::mention::{Counts, Meaning, Role, Sort};
+use crate::mention::{Counts, Meaning, NameSort, Role};
 use java_values::NoMemory;
 use std::alloc::Global;
 use std::collections::BTreeMap;
 
 impl Counts {
     /// The number of the next name of this sort.
-    pub fn next(&self, sort: Sort) -> u32
+    pub fn next(&self, sort: NameSort) -> u32
         ensures { result ≡ count_of sort self.now }
     {
         match sort {
-            Sort::Input | Sort::Output | Sort::Local => self.signals,
-            Sort::Channel => self.channels,
-            Sort::Variable => self.variables,
-            Sort::Trap => self.traps,
+            NameSort::Input | NameSort::Output | NameSort::Local => self.signals,
+            NameSort::Channel => self.channels,
+            NameSort::Variable => self.variables,
+            NameSort::Trap => self.traps,
         }
     }
 
     /// One more of this sort.
-    fn count(&mut self, sort: Sort) -> Result<(), NoMemory>
+    fn count(&mut self, sort: NameSort) -> Result<(), NoMemory>
         ensures value { IfOk result (λ _. self.new ≡ counted sort self.old) }
         ensures full { IsErr result → 2 ^ 32 ≤ count_of sort self.old + 1 }
     {
         match sort {
-            Sort::Input | Sort::Output | Sort::Local => {
+            NameSort::Input | NameSort::Output | NameSort::Local => {
                 self.signals = self.signals.checked_add(1).ok_or(NoMemory)?;
             }
-            Sort::Channel => self.channels = self.channels.checked_add(1).ok_or(NoMemory)?,
-            Sort::Variable => self.variables = self.variables.checked_add(1).ok_or(NoMemory)?,
-            Sort::Trap => self.traps = self.traps.checked_add(1).ok_or(NoMemory)?,
+            NameSort::Channel => self.channels = self.channels.checked_add(1).ok_or(NoMemory)?,
+            NameSort::Variable => self.variables = self.variables.checked_add(1).ok_or(NoMemory)?,
+            NameSort::Trap => self.traps = self.traps.checked_add(1).ok_or(NoMemory)?,
         }
         Ok(())
     }
@@ -102,7 +102,7 @@ impl<'a> Names<'a> {
     }
 
     /// Declares the name, where it isn't visible.
-    pub fn declare(&mut self, sort: Sort, name: &'a [u8]) -> Result<(), NoMemory>
+    pub fn declare(&mut self, sort: NameSort, name: &'a [u8]) -> Result<(), NoMemory>
         ensures { IfOk result (λ _. scope_of self.new ≡ declare sort name.now (scope_of self.old)) }
     {
         if self.meaning(name).is_some() {

@@ -3,8 +3,8 @@ ghost use Rattle.sj_names.specs.definitions.NumberedTrees.{number_of, status_ent
 ghost use Rattle.sj_names.specs.definitions.Scopes.{declare};
 ghost use Rattle.sj_names.specs.VisibleNames.{scope_of};
 
-use crate::entry::Entry;
-use crate::mention::{Meaning, Role, Sort};
+use crate::entry::TableEntry;
+use crate::mention::{Meaning, NameSort, Role};
 use crate::names::Names;
 use crate::statements::signal_sort;
 use java_values::NoMemory;
@@ -19,18 +19,18 @@ fn number(names: &Names<'_>, role: Role, name: &Name) -> u32
 }
 
 /// What `#` reads.
-fn status_entry(names: &Names<'_>, name: &Name) -> Entry
+fn status_entry(names: &Names<'_>, name: &Name) -> TableEntry
     ensures { result ≡ status_entry name.now (scope_of names.now) }
 {
     let number = number(names, Role::Status, name);
     match names.meaning(name.text.bytes()) {
         Some(
             Meaning {
-                sort: Sort::Channel,
+                sort: NameSort::Channel,
                 ..
             },
-        ) => Entry::Channel(number),
-        _ => Entry::Signal(number),
+        ) => TableEntry::Channel(number),
+        _ => TableEntry::Signal(number),
     }
 }
 
@@ -38,7 +38,7 @@ fn expression(
     alloc: Global,
     names: &Names<'_>,
     expression: &Raw<Name>,
-) -> Result<Raw<Entry>, NoMemory>
+) -> Result<Raw<TableEntry>, NoMemory>
     ensures { IfOk result (λ e. e ≡ numbered_expression expression.now (scope_of names.now)) }
 {
     Ok(match expression {
@@ -52,7 +52,7 @@ fn expression(
         },
         Raw::Variable { at, name } => Raw::Variable {
             at: *at,
-            name: Entry::Variable(number(names, Role::Variable, name)),
+            name: TableEntry::Variable(number(names, Role::Variable, name)),
         },
         Raw::Status { at, name_at, name } => Raw::Status {
             at: *at,
@@ -120,7 +120,7 @@ fn value(
     alloc: Global,
     names: &Names<'_>,
     value: &Option<Raw<Name>>,
-) -> Result<Option<Raw<Entry>>, NoMemory>
+) -> Result<Option<Raw<TableEntry>>, NoMemory>
     ensures { IfOk result (λ o. o ≡ numbered_value value.now (scope_of names.now)) }
 {
     match value {
@@ -132,7 +132,7 @@ fn value(
 /// The signal's number, which is declared as this sort.
 fn signal<'a>(
     names: &mut Names<'a>,
-    sort: Sort,
+    sort: NameSort,
     signal: &'a Signal<Name>,
 ) -> Result<Signal<u32>, NoMemory>
     ensures value { IfOk result (λ s. s ≡ numbered_signal sort signal.now (scope_of names.old)) }
@@ -154,7 +154,7 @@ fn statement<'a>(
     alloc: Global,
     names: &mut Names<'a>,
     statement: &'a Stmt<Name, Raw<Name>>,
-) -> Result<Stmt<u32, Raw<Entry>>, NoMemory>
+) -> Result<Stmt<u32, Raw<TableEntry>>, NoMemory>
     ensures value { IfOk result (λ t. t ≡
         (numbered_stmt statement.now (scope_of names.old)).value) }
     ensures scope { IfOk result (λ _. scope_of names.new ≡
@@ -172,7 +172,7 @@ fn form<'a>(
     alloc: Global,
     names: &mut Names<'a>,
     form: &'a Form<Name, Raw<Name>>,
-) -> Result<Form<u32, Raw<Entry>>, NoMemory>
+) -> Result<Form<u32, Raw<TableEntry>>, NoMemory>
     ensures value { IfOk result (λ f. f ≡ (numbered_form form.now (scope_of names.old)).value) }
     ensures scope { IfOk result (λ _. scope_of names.new ≡
         (numbered_form form.now (scope_of names.old)).scope) }
@@ -204,16 +204,16 @@ fn form<'a>(
             name: number(names, Role::Emit, name),
             value: value(alloc, names, given)?,
         }),
-        Form::Declare(declared) => Ok(Form::Declare(signal(names, Sort::Local, declared)?)),
+        Form::Declare(declared) => Ok(Form::Declare(signal(names, NameSort::Local, declared)?)),
         Form::Variable {
             kind,
             name_at,
             name,
             value,
         } => {
-            let number = number(names, Role::Declare(Sort::Variable), name);
+            let number = number(names, Role::Declare(NameSort::Variable), name);
             let value = expression(alloc, names, value)?;
-            names.declare(Sort::Variable, name.text.bytes())?;
+            names.declare(NameSort::Variable, name.text.bytes())?;
             Ok(Form::Variable {
                 kind: *kind,
                 name_at: *name_at,
@@ -294,8 +294,8 @@ fn form<'a>(
             body,
         } => {
             let visible = names.len();
-            let number = number(names, Role::Declare(Sort::Trap), name);
-            names.declare(Sort::Trap, name.text.bytes())?;
+            let number = number(names, Role::Declare(NameSort::Trap), name);
+            names.declare(NameSort::Trap, name.text.bytes())?;
             let body = block(alloc, names, body)?;
             names.close(visible);
             Ok(Form::Trap {
@@ -354,7 +354,7 @@ fn block_where_given<'a>(
     alloc: Global,
     names: &mut Names<'a>,
     given: &'a Option<Block<Name, Raw<Name>>>,
-) -> Result<Option<Block<u32, Raw<Entry>>>, NoMemory>
+) -> Result<Option<Block<u32, Raw<TableEntry>>>, NoMemory>
     ensures value { IfOk result (λ o. o ≡ (numbered_other given.now (scope_of names.old)).value) }
     ensures scope { IfOk result (λ _. scope_of names.new ≡
         (numbered_other given.now (scope_of names.old)).scope) }
@@ -370,7 +370,7 @@ fn blocks<'a>(
     alloc: Global,
     names: &mut Names<'a>,
     blocks: &'a [Block<Name, Raw<Name>>],
-) -> Result<Items<Block<u32, Raw<Entry>>>, NoMemory>
+) -> Result<Items<Block<u32, Raw<TableEntry>>>, NoMemory>
     ensures value { IfOk result (λ bs. bs ≡
         (blocks_in_order (map numbered_block blocks.now) (scope_of names.old)).value) }
     ensures scope { IfOk result (λ _. scope_of names.new ≡
@@ -389,7 +389,7 @@ fn block<'a>(
     alloc: Global,
     names: &mut Names<'a>,
     block: &'a Block<Name, Raw<Name>>,
-) -> Result<Block<u32, Raw<Entry>>, NoMemory>
+) -> Result<Block<u32, Raw<TableEntry>>, NoMemory>
     ensures value { IfOk result (λ b. b ≡ (numbered_block block.now (scope_of names.old)).value) }
     ensures scope { IfOk result (λ _. scope_of names.new ≡
         (numbered_block block.now (scope_of names.old)).scope) }
@@ -408,7 +408,7 @@ fn statements<'a>(
     alloc: Global,
     names: &mut Names<'a>,
     statements: &'a [Stmt<Name, Raw<Name>>],
-) -> Result<Items<Stmt<u32, Raw<Entry>>>, NoMemory>
+) -> Result<Items<Stmt<u32, Raw<TableEntry>>>, NoMemory>
     ensures value { IfOk result (λ ts. ts ≡
         (stmts_in_order (map numbered_stmt statements.now) (scope_of names.old)).value) }
     ensures scope { IfOk result (λ _. scope_of names.new ≡
@@ -435,8 +435,8 @@ fn port<'a>(names: &mut Names<'a>, port: &'a Port<Name>) -> Result<Port<u32>, No
             }))
         }
         Port::Channel(channel) => {
-            let number = number(names, Role::Declare(Sort::Channel), &channel.name);
-            names.declare(Sort::Channel, channel.name.text.bytes())?;
+            let number = number(names, Role::Declare(NameSort::Channel), &channel.name);
+            names.declare(NameSort::Channel, channel.name.text.bytes())?;
             Ok(Port::Channel(ChannelPort {
                 kind: channel.kind,
                 at: channel.at,
@@ -467,7 +467,7 @@ fn ports<'a>(
 pub fn numbered_tree(
     alloc: Global,
     tree: &Tree<Name, Raw<Name>>,
-) -> Result<Tree<u32, Raw<Entry>>, NoMemory>
+) -> Result<Tree<u32, Raw<TableEntry>>, NoMemory>
     ensures { IfOk result (λ t. t ≡ numbered_tree tree.now) }
 {
     let mut names = Names::new(alloc);

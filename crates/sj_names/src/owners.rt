@@ -1,10 +1,11 @@
 ghost use Rattle.std.specs.Prelude.{◌≡◌, ◌<◌, ◌++◌, ◌∷◌, ℕ, [], IfOk, length, get_or, set};
-ghost use Rattle.sj_names.specs.definitions.Failures.{owner_of};
+ghost use Rattle.sj_names.specs.declared.mention.Use.TheVariants as way;
+ghost use Rattle.sj_names.specs.definitions.Failures.{first_domain};
 ghost use Rattle.sj_names.specs.DomainNames.{names_in};
 ghost use Rattle.sj_names.specs.Places.{place_lists, with_place, AreEmpty, AreOwned};
 
 use crate::domains::Domains;
-use crate::ends::number_of;
+use crate::ends::number_at;
 use crate::mention::Use;
 use java_values::NoMemory;
 use std::alloc::Global;
@@ -12,7 +13,7 @@ use std::alloc::Global;
 impl Domains<'_> {
     /// The first domain that mentions the interface signal, or domain 0.
     fn owner(&self, signal: u32) -> usize
-        ensures { result ≡ owner_of (names_in self.now) signal }
+        ensures { result ≡ first_domain (names_in self.now) way.PortSignal signal }
     {
         self.first(Use::PortSignal, signal).unwrap_or(0)
     }
@@ -58,7 +59,7 @@ impl Domains<'_> {
     {
         let mut lists = empty_lists(alloc, self.names.len())?;
         for i in 0..places.len() {
-            let owner = self.owner(number_of(i)?);
+            let owner = self.owner(number_at(i)?);
             add_place(&mut lists, owner, places[i])?;
         }
         Ok(lists)

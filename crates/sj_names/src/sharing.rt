@@ -5,7 +5,7 @@ ghost use Rattle.sj_names.specs.definitions.Failures.{least_of, number_in, share
 ghost use Rattle.sj_names.specs.DomainNames.{names_in};
 
 use crate::domains::Domains;
-use crate::failure::Fault;
+use crate::failure::FailureKind;
 use crate::least::Least;
 use crate::mention::{Mention, Use};
 
@@ -20,7 +20,7 @@ impl Least {
             None => {}
             Some(signal) => {
                 let shared = domains.is_earlier(Use::PortSignal, signal, domain);
-                self.add_where(shared, mention.at, Fault::SignalShared);
+                self.add_where(shared, mention.at, FailureKind::SignalShared);
             }
         }
     }

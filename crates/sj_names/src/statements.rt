@@ -2,7 +2,7 @@ ghost use Rattle.std.specs.Prelude.{◌≡◌, ◌∷◌, ◌++◌, ◌+◌, [],
 ghost use Rattle.sj_names.specs.definitions.Mentions.{behind, mentioned, declared, read, read_where_given, tested, new_variable, in_order, other_part, block_part, stmt_part, signal_sort, port_part};
 
 use crate::expressions::{add_expression, add_name, add_test};
-use crate::mention::{Mention, Role, Sort};
+use crate::mention::{Mention, NameSort, Role};
 use crate::names::Names;
 use java_values::NoMemory;
 use sj_ast::{Block, Direction, Form, Name, Port, Raw, Stmt, Test};
@@ -14,12 +14,12 @@ pub struct Reader<'a> {
     pub mentions: Vec<Mention>,
 }
 
-pub fn signal_sort(direction: Direction) -> Sort
+pub fn signal_sort(direction: Direction) -> NameSort
     ensures { result ≡ signal_sort direction }
 {
     match direction {
-        Direction::Input => Sort::Input,
-        Direction::Output => Sort::Output,
+        Direction::Input => NameSort::Input,
+        Direction::Output => NameSort::Output,
     }
 }
 
@@ -33,7 +33,7 @@ impl<'a> Reader<'a> {
         add_name(&self.names, role, name, &mut self.mentions)
     }
 
-    fn declare(&mut self, sort: Sort, name: &'a Name) -> Result<(), NoMemory>
+    fn declare(&mut self, sort: NameSort, name: &'a Name) -> Result<(), NoMemory>
         ensures { IfOk result (λ _. told_of self.new ≡
             behind (told_of self.old) (declared sort name.now)) }
     {
@@ -68,9 +68,9 @@ impl<'a> Reader<'a> {
         ensures { IfOk result (λ _. told_of self.new ≡
             behind (told_of self.old) (new_variable name.now value.now)) }
     {
-        self.name(Role::Declare(Sort::Variable), name)?;
+        self.name(Role::Declare(NameSort::Variable), name)?;
         self.expression(value)?;
-        self.names.declare(Sort::Variable, name.text.bytes())
+        self.names.declare(NameSort::Variable, name.text.bytes())
     }
 
     #[cycle(statements)]
@@ -92,7 +92,7 @@ impl<'a> Reader<'a> {
                 self.name(Role::Emit, name)?;
                 self.value(value)
             }
-            Form::Declare(signal) => self.declare(Sort::Local, &signal.name),
+            Form::Declare(signal) => self.declare(NameSort::Local, &signal.name),
             Form::Variable { name, value, .. } => self.variable(name, value),
             Form::Assign { name, value, .. } => {
                 self.name(Role::Variable, name)?;
@@ -123,7 +123,7 @@ impl<'a> Reader<'a> {
             }
             Form::Trap { name, body, .. } => {
                 let visible = self.names.len();
-                self.declare(Sort::Trap, name)?;
+                self.declare(NameSort::Trap, name)?;
                 self.block(body)?;
                 self.names.close(visible);
                 Ok(())
@@ -196,7 +196,7 @@ impl<'a> Reader<'a> {
     {
         match port {
             Port::Signal(port) => self.declare(signal_sort(port.direction), &port.signal.name),
-            Port::Channel(channel) => self.declare(Sort::Channel, &channel.name),
+            Port::Channel(channel) => self.declare(NameSort::Channel, &channel.name),
         }
     }
 

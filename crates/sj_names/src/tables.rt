@@ -1,13 +1,14 @@
 ghost use Rattle.std.specs.Prelude.{◌≡◌, ◌++◌, ◌∷◌, [], IfOk, drop, length};
 ghost use Rattle.sj_ast.specs.declared.port.Port.TheVariants as port_is;
-ghost use Rattle.sj_names.specs.definitions.DeclaredTables.{first_domain, sort_of, port_signals, port_channels, tables_of_tree};
+ghost use Rattle.sj_names.specs.definitions.Failures.{first_domain};
+ghost use Rattle.sj_names.specs.definitions.DeclaredTables.{sort_of, port_signals, port_channels, tables_of_tree};
 ghost use Rattle.sj_names.specs.definitions.Mentions.{names_of_tree};
 ghost use Rattle.sj_names.specs.DomainNames.{names_in};
 ghost use Rattle.sj_names.specs.definitions.ReadNames.{tree_names_of};
 
 use crate::declared::{Declarations, signal_info};
 use crate::domains::Domains;
-use crate::ends::number_of;
+use crate::ends::number_at;
 use crate::mention::Use;
 use crate::program::TreeNames;
 use java_values::{NoMemory, Text};
@@ -30,7 +31,7 @@ impl Domains<'_> {
     fn first_domain(&self, way: Use, number: u32) -> Result<u32, NoMemory>
         ensures { IfOk result (λ domain. domain ≡ first_domain (names_in self.now) way number) }
     {
-        number_of(self.first(way, number).unwrap_or(0))
+        number_at(self.first(way, number).unwrap_or(0))
     }
 }
 
@@ -54,7 +55,7 @@ impl PortTables {
             (port_is.Signal port.now ∷ [])) }
         ensures channels { self.new.channels ≡ self.old.channels }
     {
-        let number = number_of(self.signals.len())?;
+        let number = number_at(self.signals.len())?;
         let domain = domains.first_domain(Use::PortSignal, number)?;
         let info = signal_info(alloc, sort_of(port.direction), domain, &port.signal)?;
         self.signals.push(info)?;
@@ -73,7 +74,7 @@ impl PortTables {
             port_channels (names_in domains.now) (length self.old.channels.items)
             (port_is.Channel port.now ∷ [])) }
     {
-        let number = number_of(self.channels.len())?;
+        let number = number_at(self.channels.len())?;
         let sender = domains.first_domain(Use::SendingEnd, number)?;
         let receiver = domains.first_domain(Use::ReceivingEnd, number)?;
         let name = Text::new(alloc, port.name.text.bytes())?;

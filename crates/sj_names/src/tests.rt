@@ -1,4 +1,5 @@
-use crate::{Entry, Failure, Fault, TreeNames, bind, numbered_tree};
+use crate::tables::tables_of_tree;
+use crate::{Failure, FailureKind, TableEntry, TreeNames, numbered_tree};
 use java_values::{Kind, Text, Value};
 use sj_ast::{
     Block, ChannelPort, Direction, Form, Name, Port, Raw, Signal, SignalPort, Stmt, Test, Tree,
@@ -103,7 +104,7 @@ fn first_failure(alloc: Global, statements: Vec<Statement>) -> Result<Option<Fai
 fn unknown(at: u32) -> Option<Failure> {
     Some(Failure {
         at,
-        fault: Fault::Unknown,
+        fault: FailureKind::Unknown,
     })
 }
 
@@ -224,7 +225,7 @@ fn the_test_of_each_form_is_read(rt: HostRuntime) -> Result<(), Fail> {
 }
 
 // The number of an emitted or declared signal.
-fn number_of(statement: &Stmt<u32, Raw<Entry>>) -> Option<u32> {
+fn statement_number(statement: &Stmt<u32, Raw<TableEntry>>) -> Option<u32> {
     match &statement.form {
         Form::Emit { name, .. } => Some(*name),
         Form::Declare(signal) => Some(signal.name),
@@ -253,7 +254,7 @@ fn numbers_go_on_behind_a_block(rt: HostRuntime) -> Result<(), Fail> {
     let mut numbers = Vec::new(alloc);
     for domain in numbered.domains.as_slice() {
         for statement in domain.statements.as_slice() {
-            numbers.push(number_of(statement))?;
+            numbers.push(statement_number(statement))?;
         }
     }
     assert_eq!(rt; numbers[..], [None, Some(1), Some(2), Some(1), Some(2)][..]);
@@ -345,19 +346,20 @@ fn two_domains(alloc: Global) -> Result<Tree<Name, Raw<Name>>, AllocError> {
 fn tables_have_each_name_of_its_domain(rt: HostRuntime) -> Result<(), Fail> {
     let alloc = rt.alloc();
     let tree = two_domains(alloc)?;
-    let bound = bind(alloc, &tree).map_err(|_| AllocError)?;
+    let names = TreeNames::read(alloc, &tree).map_err(|_| AllocError)?;
+    let tables = tables_of_tree(alloc, &names, &tree).map_err(|_| AllocError)?;
     let mut owners = Vec::new(alloc);
-    for signal in bound.tables.signals.as_slice() {
+    for signal in tables.signals.as_slice() {
         owners.push(signal.domain)?;
     }
     assert_eq!(rt; owners[..], [1, 0, 1][..]);
     let mut ends = Vec::new(alloc);
-    for channel in bound.tables.channels.as_slice() {
+    for channel in tables.channels.as_slice() {
         ends.push((channel.sender, channel.receiver))?;
     }
     assert_eq!(rt; ends[..], [(1, 0)][..]);
     let mut kinds = Vec::new(alloc);
-    for variable in bound.tables.variables.as_slice() {
+    for variable in tables.variables.as_slice() {
         kinds.push((variable.domain, variable.kind))?;
     }
     assert_eq!(rt; kinds[..], [(1, Kind::Byte)][..]);
@@ -383,7 +385,7 @@ fn emit_status(alloc: Global, text: &[u8], at: u32, read: &[u8]) -> Result<State
 }
 
 // What the value of an emission or of a send reads.
-fn entry_of(statement: &Stmt<u32, Raw<Entry>>) -> Option<Entry> {
+fn entry_of(statement: &Stmt<u32, Raw<TableEntry>>) -> Option<TableEntry> {
     let value = match &statement.form {
         Form::Emit { value, .. } => value.as_ref()?,
         Form::Send { value, .. } => value,
@@ -426,7 +428,11 @@ fn names_of_expressions_are_entries(rt: HostRuntime) -> Result<(), Fail> {
     }
     assert_eq!(rt;
         entries[..],
-        [Entry::Signal(1), Entry::Channel(0), Entry::Variable(1)][..]
+        [
+            TableEntry::Signal(1),
+            TableEntry::Channel(0),
+            TableEntry::Variable(1)
+        ][..]
     );
     Ok(())
 }

@@ -76,10 +76,10 @@ pub struct FirstUses {
 }
 
 impl FirstUses {
-    ghost use Rattle.sj_names.specs.FirstDomains.{first_of, lists, Claims, UsesAll, AreFirst};
+    ghost use Rattle.sj_names.specs.FirstDomains.{first_user, lists, Claims, UsesAll, AreFirst};
 
     pub fn new(alloc: Global) -> FirstUses
-        ensures { (n : ℕ) → first_of result n ≡ None }
+        ensures { (n : ℕ) → first_user result n ≡ None }
     {
         FirstUses {
             domains: BTreeMap::new(alloc),
@@ -87,7 +87,7 @@ impl FirstUses {
     }
 
     pub fn get(&self, number: u32) -> Option<usize>
-        ensures { result ≡ first_of self.now number }
+        ensures { result ≡ first_user self.now number }
     {
         self.domains.get(&number).copied()
     }

@@ -13,8 +13,8 @@ use Rattle.kernel_terms.specs.TableEntries.{signal_at, channel_at, variable_at}
 use Rattle.sj_ast.specs.declared.expression.Raw as raw
 use Rattle.sj_ast.specs.declared.expression.Raw.TheOpen.{Raw-F}
 use Rattle.sj_ast.specs.declared.expression.Raw.TheFolds.{fold-Raw}
-use Rattle.sj_names.specs.declared.entry.Entry.{Entry}
-use Rattle.sj_names.specs.declared.entry.Entry.TheVariants as entry
+use Rattle.sj_names.specs.declared.entry.TableEntry.{TableEntry}
+use Rattle.sj_names.specs.declared.entry.TableEntry.TheVariants as entry
 use Rattle.java_types.specs.declared.operand.Spelling.{Spelling}
 use Rattle.java_types.specs.declared.operand.Spelling.TheVariants as spelling
 use Rattle.java_types.specs.declared.operand.Operand.{Operand}
@@ -33,7 +33,7 @@ abbrev pub written : ℕ → Spelling → expr.Expr → Operand
 written at s e = record { expr = e; first = at; spelling = s }
 
 -- the value of an entry of the tables; a pure signal has none
-abbrev pub entry_expression : Tables → Entry → Option expr.Expr
+abbrev pub entry_expression : Tables → TableEntry → Option expr.Expr
 entry_expression t (entry.Signal n) =
     option_map (λ k. expr_of k (expr_form.Signal n)) (signal_at t n).kind
 entry_expression t (entry.Channel n) = Some (expr_of (channel_at t n).kind (expr_form.Channel n))
@@ -105,7 +105,7 @@ abbrev pub binary_operand : ℕ → Op2 → Operands → Checked Operand
 binary_operand at op o =
     then (binary at op o.left.expr o.right) (λ e. fine (written o.left.first spelling.Other e))
 
-abbrev pub checked_layer : Tables → Raw-F Entry (Checked Operand) → Checked Operand
+abbrev pub checked_layer : Tables → Raw-F TableEntry (Checked Operand) → Checked Operand
 checked_layer t (Raw-F.Literal at v) = fine (plain_literal at v)
 checked_layer t (Raw-F.Least at v) = fine (least_literal at v)
 checked_layer t (Raw-F.Variable at n) = value_of_name at at (entry_expression t n)
@@ -116,5 +116,5 @@ checked_layer t (Raw-F.Group at e) = then e (λ o. fine (in_parentheses at o))
 checked_layer t (Raw-F.Binary at op l r) = then (map2 operands l r) (binary_operand at op)
 
 -- an expression with its kind, in these tables
-abbrev pub checked_expression : Tables → raw.Raw Entry → Checked Operand
-checked_expression t = fold-Raw Entry (Checked Operand) (checked_layer t)
+abbrev pub checked_expression : Tables → raw.Raw TableEntry → Checked Operand
+checked_expression t = fold-Raw TableEntry (Checked Operand) (checked_layer t)

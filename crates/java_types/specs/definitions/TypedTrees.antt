@@ -20,7 +20,7 @@ use Rattle.sj_ast.specs.declared.statement.Form.TheFolds.{fold-Form, fold-Block,
 use Rattle.sj_ast.specs.declared.statement.Block as block
 use Rattle.sj_ast.specs.declared.statement.Stmt as stmt
 use Rattle.sj_ast.specs.declared.statement.Tree.{Tree}
-use Rattle.sj_names.specs.declared.entry.Entry.{Entry}
+use Rattle.sj_names.specs.declared.entry.TableEntry.{TableEntry}
 use Rattle.java_types.specs.declared.failure.TypeFailure.{TypeFailure}
 use Rattle.java_types.specs.declared.failure.TypeFailure.TheVariants as failure
 use Rattle.java_types.specs.definitions.Checks.{Checked, fine, wrong, after, map1, map2, map3, then, all_checked, where_given}
@@ -58,30 +58,30 @@ combination_failures (Some v) = written_failures v.kind v.combine
 
 -- values
 
-abbrev pub value_for : Tables → Kind → raw.Raw Entry → Checked expr.Expr
+abbrev pub value_for : Tables → Kind → raw.Raw TableEntry → Checked expr.Expr
 value_for t k e = then (checked_expression t e) (given k)
 
-abbrev pub condition_of : Tables → raw.Raw Entry → Checked expr.Expr
+abbrev pub condition_of : Tables → raw.Raw TableEntry → Checked expr.Expr
 condition_of t e = then (checked_expression t e) condition
 
 -- A valued signal is emitted with a value, and a pure one without. It is wrong at the signal's name.
-abbrev pub emission : Tables → ℕ → Option Kind → Option (raw.Raw Entry) → Checked (Option expr.Expr)
+abbrev pub emission : Tables → ℕ → Option Kind → Option (raw.Raw TableEntry) → Checked (Option expr.Expr)
 emission t at None None = fine None
 emission t at None (Some e) =
     record { value = None; failures = failure.Mismatch at ∷ (checked_expression t e).failures }
 emission t at (Some k) None = wrong (failure.Mismatch at)
 emission t at (Some k) (Some e) = map1 Some (value_for t k e)
 
-abbrev pub emission_of : Tables → ℕ → ℕ → Option (raw.Raw Entry) → Checked (Option expr.Expr)
+abbrev pub emission_of : Tables → ℕ → ℕ → Option (raw.Raw TableEntry) → Checked (Option expr.Expr)
 emission_of t at s value = emission t at (signal_at t s).kind value
 
-abbrev pub update_of : Tables → (variable sign_at : ℕ) → Op2 → raw.Raw Entry → Checked expr.Expr
+abbrev pub update_of : Tables → (variable sign_at : ℕ) → Op2 → raw.Raw TableEntry → Checked expr.Expr
 update_of t n at op e = then (checked_expression t e) (updated (variable_at t n).kind n at op)
 
 -- statements
 
 abbrev pub form_layer : Tables →
-    Form-F ℕ (raw.Raw Entry) (Checked TypedForm) (Checked TypedBlock) (Checked TypedStmt) →
+    Form-F ℕ (raw.Raw TableEntry) (Checked TypedForm) (Checked TypedBlock) (Checked TypedStmt) →
     Checked TypedForm
 form_layer t Form-F.Empty = fine form.Empty
 form_layer t (Form-F.Par first others) = map2 form.Par first (all_checked others)
@@ -117,31 +117,31 @@ block_at at ss = block.roll-Block ℕ expr.Expr (record { at = at; statements = 
 abbrev pub stmt_at : ℕ → TypedForm → TypedStmt
 stmt_at at f = stmt.roll-Stmt ℕ expr.Expr (record { at = at; form = f })
 
-abbrev pub block_layer : Block-F ℕ (raw.Raw Entry) (Checked TypedForm) (Checked TypedBlock)
+abbrev pub block_layer : Block-F ℕ (raw.Raw TableEntry) (Checked TypedForm) (Checked TypedBlock)
     (Checked TypedStmt) → Checked TypedBlock
 block_layer b = map1 (block_at b.at) (all_checked b.statements)
 
-abbrev pub stmt_layer : Stmt-F ℕ (raw.Raw Entry) (Checked TypedForm) (Checked TypedBlock)
+abbrev pub stmt_layer : Stmt-F ℕ (raw.Raw TableEntry) (Checked TypedForm) (Checked TypedBlock)
     (Checked TypedStmt) → Checked TypedStmt
 stmt_layer s = map1 (stmt_at s.at) s.form
 
-abbrev pub checked_form : Tables → form.Form ℕ (raw.Raw Entry) → Checked TypedForm
+abbrev pub checked_form : Tables → form.Form ℕ (raw.Raw TableEntry) → Checked TypedForm
 checked_form t =
-    fold-Form ℕ (raw.Raw Entry) (Checked TypedForm) (Checked TypedBlock) (Checked TypedStmt)
+    fold-Form ℕ (raw.Raw TableEntry) (Checked TypedForm) (Checked TypedBlock) (Checked TypedStmt)
     (form_layer t) block_layer stmt_layer
 
-abbrev pub checked_block : Tables → block.Block ℕ (raw.Raw Entry) → Checked TypedBlock
+abbrev pub checked_block : Tables → block.Block ℕ (raw.Raw TableEntry) → Checked TypedBlock
 checked_block t =
-    fold-Block ℕ (raw.Raw Entry) (Checked TypedForm) (Checked TypedBlock) (Checked TypedStmt)
+    fold-Block ℕ (raw.Raw TableEntry) (Checked TypedForm) (Checked TypedBlock) (Checked TypedStmt)
     (form_layer t) block_layer stmt_layer
 
-abbrev pub checked_stmt : Tables → stmt.Stmt ℕ (raw.Raw Entry) → Checked TypedStmt
+abbrev pub checked_stmt : Tables → stmt.Stmt ℕ (raw.Raw TableEntry) → Checked TypedStmt
 checked_stmt t =
-    fold-Stmt ℕ (raw.Raw Entry) (Checked TypedForm) (Checked TypedBlock) (Checked TypedStmt)
+    fold-Stmt ℕ (raw.Raw TableEntry) (Checked TypedForm) (Checked TypedBlock) (Checked TypedStmt)
     (form_layer t) block_layer stmt_layer
 
 -- a block that may be given
-abbrev pub checked_other : Tables → Option (block.Block ℕ (raw.Raw Entry)) →
+abbrev pub checked_other : Tables → Option (block.Block ℕ (raw.Raw TableEntry)) →
     Checked (Option TypedBlock)
 checked_other t None = fine None
 checked_other t (Some b) = map1 Some (checked_block t b)
@@ -155,7 +155,7 @@ port_failures (port_is.Channel c) = []
 abbrev pub with_domains : List (port.Port ℕ) → List TypedBlock → Tree ℕ expr.Expr
 with_domains ports blocks = record { ports = ports; domains = blocks }
 
-abbrev pub checked_tree : Tables → Tree ℕ (raw.Raw Entry) → Checked (Tree ℕ expr.Expr)
+abbrev pub checked_tree : Tables → Tree ℕ (raw.Raw TableEntry) → Checked (Tree ℕ expr.Expr)
 checked_tree t tree =
     after (flat_map port_failures tree.ports)
     (map1 (with_domains tree.ports) (all_checked (map (checked_block t) tree.domains)))

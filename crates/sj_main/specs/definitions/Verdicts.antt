@@ -9,8 +9,8 @@ use Rattle.kernel_rules.specs.definitions.LegalTick.{no_inputs}
 use Rattle.domain_core.specs.definitions.runs.Systems.{SystemState}
 use Rattle.domain_core.specs.definitions.runs.Scheduled.{IsScheduledRun, IsWholeRun}
 use Rattle.sj_main.specs.declared.commands.Turns.{Turns}
-use Rattle.sj_names.specs.declared.failure.Fault.{Fault}
-use Rattle.sj_names.specs.declared.failure.Fault.TheVariants as fault
+use Rattle.sj_names.specs.declared.failure.FailureKind.{FailureKind}
+use Rattle.sj_names.specs.declared.failure.FailureKind.TheVariants as fault
 use Rattle.sj_accept.specs.declared.refusal.Refusal.{Refusal}
 use Rattle.java_types.specs.declared.failure.TypeFailure.{TypeFailure}
 use Rattle.java_types.specs.declared.failure.TypeFailure.TheVariants as kinds
@@ -40,7 +40,7 @@ abbrev pub size_line : List ℕ
 size_line = codes "refused Size\n"
 
 -- what stands before the place of a failure of names
-abbrev pub fault_text : Fault → List ℕ
+abbrev pub fault_text : FailureKind → List ℕ
 fault_text fault.Unknown = codes "refused Unknown at "
 fault_text fault.Twice = codes "refused Twice at "
 fault_text fault.SignalShared = codes "refused SignalShared at "

@@ -1,5 +1,5 @@
 -- The tables of a tree: its signals, channels and variables, each by its number.
-use Rattle.std.specs.Prelude.{ℕ, suc, List, [], ◌∷◌, ◌++◌, Option, Some, None, unwrap_or}
+use Rattle.std.specs.Prelude.{ℕ, suc, List, [], ◌∷◌, ◌++◌, Option, Some, None}
 use Rattle.java_values.specs.declared.kind.Kind.{Kind}
 use Rattle.java_values.specs.declared.kind.Kind.TheVariants as kind
 use Rattle.kernel_terms.specs.declared.tables.Sort.TheVariants as sort
@@ -28,10 +28,9 @@ use Rattle.sj_ast.specs.declared.statement.Block.{Block}
 use Rattle.sj_ast.specs.declared.statement.Stmt.{Stmt}
 use Rattle.sj_ast.specs.declared.statement.Tree.{Tree}
 use Rattle.sj_names.specs.declared.mention.Mention.{Mention}
-use Rattle.sj_names.specs.declared.mention.Use.{Use}
 use Rattle.sj_names.specs.declared.mention.Use.TheVariants as way
 use Rattle.sj_names.specs.definitions.Mentions.{names_of_tree}
-use Rattle.sj_names.specs.definitions.Failures.{uses, first_with}
+use Rattle.sj_names.specs.definitions.Failures.{first_domain}
 
 abbrev pub operator_of : CombineOperator → Combine
 operator_of operator.Add = combine.Add
@@ -72,10 +71,6 @@ signal_info s domain signal =
       kind = kind_of signal.valued;
       combine = combine_of signal.valued;
     }
-
--- the first domain that uses the number so, or domain 0
-abbrev pub first_domain : List (List Mention) → Use → ℕ → ℕ
-first_domain domains u n = unwrap_or (first_with (uses u n) 0 domains) 0
 
 -- the signals of an interface, from the number n on
 abbrev pub port_signals : List (List Mention) → ℕ → List (Port Name) → List SignalInfo

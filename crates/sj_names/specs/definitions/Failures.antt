@@ -2,8 +2,8 @@
 use Rattle.std.specs.Prelude.{◌≡◌, ◌⊎◌, ℕ, suc, Bool, true, false, cond, ◌&&◌, ◌||◌, not, ◌==◌, nat_lt, List, [], ◌∷◌, ◌++◌, drop, Option, Some, None, unwrap_or}
 use Rattle.std.specs.List.{list_any, flat_map}
 use Rattle.kernel_terms.specs.Limits.{most_domains, most_channels, most_signals, most_variables}
-use Rattle.sj_names.specs.declared.mention.Sort.{Sort}
-use Rattle.sj_names.specs.declared.mention.Sort.TheVariants as sort
+use Rattle.sj_names.specs.declared.mention.NameSort.{NameSort}
+use Rattle.sj_names.specs.declared.mention.NameSort.TheVariants as sort
 use Rattle.sj_names.specs.declared.mention.Role.{Role}
 use Rattle.sj_names.specs.declared.mention.Role.TheVariants as role
 use Rattle.sj_names.specs.declared.mention.Meaning.{Meaning}
@@ -12,12 +12,12 @@ use Rattle.sj_names.specs.declared.mention.Group.{Group}
 use Rattle.sj_names.specs.declared.mention.Group.TheVariants as group
 use Rattle.sj_names.specs.declared.mention.Use.{Use}
 use Rattle.sj_names.specs.declared.mention.Use.TheVariants as way
-use Rattle.sj_names.specs.declared.failure.Fault.{Fault}
-use Rattle.sj_names.specs.declared.failure.Fault.TheVariants as fault
+use Rattle.sj_names.specs.declared.failure.FailureKind.{FailureKind}
+use Rattle.sj_names.specs.declared.failure.FailureKind.TheVariants as fault
 use Rattle.sj_names.specs.declared.failure.Failure.{Failure}
-use Rattle.sj_names.specs.definitions.Mentions.{TreeNames}
+use Rattle.sj_names.specs.definitions.Mentions.{TreeMentions}
 
-abbrev pub failure_at : Fault → ℕ → Failure
+abbrev pub failure_at : FailureKind → ℕ → Failure
 failure_at f at = record { at = at; fault = f }
 
 abbrev pub where_true : Bool → Failure → List Failure
@@ -25,33 +25,33 @@ where_true b f = cond b (f ∷ []) []
 
 -- sorts of names
 
-abbrev pub is_port_signal : Sort → Bool
+abbrev pub is_port_signal : NameSort → Bool
 is_port_signal sort.Input = true
 is_port_signal sort.Output = true
 is_port_signal _ = false
 
-abbrev pub is_signal : Sort → Bool
+abbrev pub is_signal : NameSort → Bool
 is_signal sort.Local = true
 is_signal s = is_port_signal s
 
-abbrev pub is_channel : Sort → Bool
+abbrev pub is_channel : NameSort → Bool
 is_channel sort.Channel = true
 is_channel _ = false
 
-abbrev pub is_variable : Sort → Bool
+abbrev pub is_variable : NameSort → Bool
 is_variable sort.Variable = true
 is_variable _ = false
 
-abbrev pub is_trap : Sort → Bool
+abbrev pub is_trap : NameSort → Bool
 is_trap sort.Trap = true
 is_trap _ = false
 
-abbrev pub is_input : Sort → Bool
+abbrev pub is_input : NameSort → Bool
 is_input sort.Input = true
 is_input _ = false
 
 -- a name of this sort may stand in this role
-abbrev pub fits : Role → Sort → Bool
+abbrev pub fits : Role → NameSort → Bool
 fits (role.Declare t) s = false
 fits role.Emit s = is_signal s
 fits role.Test s = is_signal s
@@ -88,7 +88,7 @@ abbrev pub used : Role → Option Meaning → Option Meaning
 used r None = None
 used r (Some m) = cond (fits r m.sort) (Some m) None
 
-abbrev pub number_where : (Sort → Bool) → Option Meaning → Option ℕ
+abbrev pub number_where : (NameSort → Bool) → Option Meaning → Option ℕ
 number_where test None = None
 number_where test (Some m) = cond (test m.sort) (Some m.number) None
 
@@ -158,18 +158,18 @@ end_failures earlier (d ∷ ds) =
 
 -- declared names
 
-abbrev pub is_in : Group → Sort → Bool
+abbrev pub is_in : Group → NameSort → Bool
 is_in group.PortSignal = is_port_signal
 is_in group.Signal = is_signal
 is_in group.Channel = is_channel
 is_in group.Variable = is_variable
 
-abbrev pub is_new : (Sort → Bool) → Role → Option Meaning → Bool
+abbrev pub is_new : (NameSort → Bool) → Role → Option Meaning → Bool
 is_new test (role.Declare s) None = test s
 is_new test _ _ = false
 
 -- the places of the names that are declared as such a sort
-abbrev pub places_of : (Sort → Bool) → List Mention → List ℕ
+abbrev pub places_of : (NameSort → Bool) → List Mention → List ℕ
 places_of test [] = []
 places_of test (m ∷ ms) =
     cond (is_new test m.role m.meaning) (m.at ∷ places_of test ms) (places_of test ms)
@@ -195,15 +195,15 @@ abbrev pub first_with : (List Mention → Bool) → ℕ → List (List Mention) 
 first_with test d [] = None
 first_with test d (ms ∷ domains) = cond (test ms) (Some d) (first_with test (suc d) domains)
 
--- the first domain that mentions the interface signal, or domain 0
-abbrev pub owner_of : List (List Mention) → ℕ → ℕ
-owner_of domains n = unwrap_or (first_with (uses way.PortSignal n) 0 domains) 0
+-- the first domain that uses the number so, or domain 0
+abbrev pub first_domain : List (List Mention) → Use → ℕ → ℕ
+first_domain domains u n = unwrap_or (first_with (uses u n) 0 domains) 0
 
 -- the places of the interface signals of a domain, from the signal of this number on
 abbrev pub owned_places : List (List Mention) → ℕ → ℕ → List ℕ → List ℕ
 owned_places domains d n [] = []
 owned_places domains d n (at ∷ places) =
-    cond (owner_of domains n == d) (at ∷
+    cond (first_domain domains way.PortSignal n == d) (at ∷
     owned_places domains d (suc n) places) (owned_places domains d (suc n) places)
 
 -- the limits of one domain, to which these interface signals belong
@@ -221,7 +221,7 @@ domain_limit_failures domains places d (ms ∷ rest) =
     domain_limit_failures domains places (suc d) rest
 
 -- all failures of the names of a tree
-abbrev pub failures_of : TreeNames → List Failure
+abbrev pub failures_of : TreeMentions → List Failure
 failures_of names =
     flat_map own_failures names.ports
     ++ (flat_map (flat_map own_failures) names.domains
@@ -235,7 +235,7 @@ failures_of names =
 
 -- the order of failures
 
-abbrev pub rank : Fault → ℕ
+abbrev pub rank : FailureKind → ℕ
 rank fault.Unknown = 0
 rank fault.Twice = 1
 rank fault.SignalShared = 2

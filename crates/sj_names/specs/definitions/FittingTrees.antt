@@ -18,8 +18,8 @@ use Rattle.sj_ast.specs.declared.statement.Form.TheFolds.{fold-Form, fold-Block,
 use Rattle.sj_ast.specs.declared.statement.Block.{Block}
 use Rattle.sj_ast.specs.declared.statement.Stmt.{Stmt}
 use Rattle.sj_ast.specs.declared.statement.Tree.{Tree}
-use Rattle.sj_names.specs.declared.entry.Entry.{Entry}
-use Rattle.sj_names.specs.declared.entry.Entry.TheVariants as entry
+use Rattle.sj_names.specs.declared.entry.TableEntry.{TableEntry}
+use Rattle.sj_names.specs.declared.entry.TableEntry.TheVariants as entry
 
 -- the domain in which a part stands, the traps around it, and the local signals that are visible there, innermost first
 pub record Around : Type 0 where
@@ -27,8 +27,8 @@ pub record Around : Type 0 where
   pub traps : List ℕ
   pub locals : List ℕ
 
-abbrev pub scope_of : Around → terms.Scope
-scope_of a = record { domain = a.domain; traps = length a.traps; locals = a.locals }
+abbrev pub term_scope : Around → terms.Scope
+term_scope a = record { domain = a.domain; traps = length a.traps; locals = a.locals }
 
 abbrev pub in_trap : ℕ → Around → Around
 in_trap n a = record { domain = a.domain; traps = n ∷ a.traps; locals = a.locals }
@@ -51,22 +51,22 @@ pub record Fitted : Type 0 where
   pub fits : Bool
   pub around : Around
 
-abbrev pub Part : Type 0
-Part = Around → Fitted
+abbrev pub FittingPart : Type 0
+FittingPart = Around → Fitted
 
 -- a part that declares nothing
-abbrev pub alone : Bool → Part
+abbrev pub alone : Bool → FittingPart
 alone fits a = record { fits = fits; around = a }
 
-abbrev pub blocks_fit : List Part → Around → Bool
+abbrev pub blocks_fit : List FittingPart → Around → Bool
 blocks_fit [] a = true
 blocks_fit (b ∷ bs) a = (b a).fits && blocks_fit bs a
 
-abbrev pub stmts_fit : List Part → Around → Bool
+abbrev pub stmts_fit : List FittingPart → Around → Bool
 stmts_fit [] a = true
 stmts_fit (s ∷ ss) a = (s a).fits && stmts_fit ss (s a).around
 
-abbrev pub other_fits : Option Part → Around → Bool
+abbrev pub other_fits : Option FittingPart → Around → Bool
 other_fits None a = true
 other_fits (Some b) a = (b a).fits
 
@@ -85,56 +85,56 @@ abbrev pub is_declared_variable : Tables → ℕ → Kind → ℕ → Bool
 is_declared_variable t d k x = is_variable_of t d x && same_kind (variable_at t x).kind k
 
 module _ (t : Tables) {E : Type 0} (rules : ValueRules E) where
-  abbrev pub form_fits : Form-F ℕ E Part Part Part → Part
-  form_fits Form-F.Empty a = alone true a
-  form_fits (Form-F.Par first others) a = alone ((first a).fits && blocks_fit others a) a
-  form_fits Form-F.Pause a = alone true a
-  form_fits Form-F.Halt a = alone true a
-  form_fits (Form-F.Emit at s value) a =
-      alone (can_emit t (scope_of a) s && rules.emitted (scope_of a) (signal_at t s).kind value) a
-  form_fits (Form-F.Sustain at s value) a =
-      alone (can_emit t (scope_of a) s && rules.emitted (scope_of a) (signal_at t s).kind value) a
-  form_fits (Form-F.Declare signal) a =
+  abbrev pub fits_form_layer : Form-F ℕ E FittingPart FittingPart FittingPart → FittingPart
+  fits_form_layer Form-F.Empty a = alone true a
+  fits_form_layer (Form-F.Par first others) a = alone ((first a).fits && blocks_fit others a) a
+  fits_form_layer Form-F.Pause a = alone true a
+  fits_form_layer Form-F.Halt a = alone true a
+  fits_form_layer (Form-F.Emit at s value) a =
+      alone (can_emit t (term_scope a) s && rules.emitted (term_scope a) (signal_at t s).kind value) a
+  fits_form_layer (Form-F.Sustain at s value) a =
+      alone (can_emit t (term_scope a) s && rules.emitted (term_scope a) (signal_at t s).kind value) a
+  fits_form_layer (Form-F.Declare signal) a =
       record { fits = is_local_of t a.domain signal.name; around = with_local signal.name a }
-  form_fits (Form-F.Variable k at x value) a =
-      alone (is_declared_variable t a.domain k x && rules.given (scope_of a) k value) a
-  form_fits (Form-F.Assign at x value) a =
-      alone (is_variable_of t a.domain x && rules.given (scope_of a) (variable_at t x).kind value) a
-  form_fits (Form-F.Update at x sign_at op value) a =
-      alone (is_variable_of t a.domain x && rules.given (scope_of a) (variable_at t x).kind value) a
-  form_fits (Form-F.If cond first other) a =
-      alone (rules.given (scope_of a) kind.Boolean cond && ((first a).fits && other_fits other a)) a
-  form_fits (Form-F.Present test first other) a =
-      alone (fits_test t (scope_of a) test && ((first a).fits && other_fits other a)) a
-  form_fits (Form-F.While body) a = alone (body a).fits a
-  form_fits (Form-F.Abort weak immediate test body) a =
-      alone (fits_test t (scope_of a) test && (body a).fits) a
-  form_fits (Form-F.Suspend immediate test body) a =
-      alone (fits_test t (scope_of a) test && (body a).fits) a
-  form_fits (Form-F.Trap at n body) a = alone (body (in_trap n a)).fits a
-  form_fits (Form-F.Exit at n) a = alone (stands_in n a.traps) a
-  form_fits (Form-F.Send at c value) a =
-      alone (is_sender_of t a.domain c && rules.given (scope_of a) (channel_at t c).kind value) a
-  form_fits (Form-F.Receive at c) a = alone (is_receiver_of t a.domain c) a
-  form_fits (Form-F.Await immediate test) a = alone (fits_test t (scope_of a) test) a
-  form_fits (Form-F.Every immediate test body) a =
-      alone (fits_test t (scope_of a) test && (body a).fits) a
-  form_fits (Form-F.Loop body test) a = alone ((body a).fits && fits_test t (scope_of a) test) a
+  fits_form_layer (Form-F.Variable k at x value) a =
+      alone (is_declared_variable t a.domain k x && rules.given (term_scope a) k value) a
+  fits_form_layer (Form-F.Assign at x value) a =
+      alone (is_variable_of t a.domain x && rules.given (term_scope a) (variable_at t x).kind value) a
+  fits_form_layer (Form-F.Update at x sign_at op value) a =
+      alone (is_variable_of t a.domain x && rules.given (term_scope a) (variable_at t x).kind value) a
+  fits_form_layer (Form-F.If cond first other) a =
+      alone (rules.given (term_scope a) kind.Boolean cond && ((first a).fits && other_fits other a)) a
+  fits_form_layer (Form-F.Present test first other) a =
+      alone (fits_test t (term_scope a) test && ((first a).fits && other_fits other a)) a
+  fits_form_layer (Form-F.While body) a = alone (body a).fits a
+  fits_form_layer (Form-F.Abort weak immediate test body) a =
+      alone (fits_test t (term_scope a) test && (body a).fits) a
+  fits_form_layer (Form-F.Suspend immediate test body) a =
+      alone (fits_test t (term_scope a) test && (body a).fits) a
+  fits_form_layer (Form-F.Trap at n body) a = alone (body (in_trap n a)).fits a
+  fits_form_layer (Form-F.Exit at n) a = alone (stands_in n a.traps) a
+  fits_form_layer (Form-F.Send at c value) a =
+      alone (is_sender_of t a.domain c && rules.given (term_scope a) (channel_at t c).kind value) a
+  fits_form_layer (Form-F.Receive at c) a = alone (is_receiver_of t a.domain c) a
+  fits_form_layer (Form-F.Await immediate test) a = alone (fits_test t (term_scope a) test) a
+  fits_form_layer (Form-F.Every immediate test body) a =
+      alone (fits_test t (term_scope a) test && (body a).fits) a
+  fits_form_layer (Form-F.Loop body test) a = alone ((body a).fits && fits_test t (term_scope a) test) a
 
-  abbrev pub block_fits : Block-F ℕ E Part Part Part → Part
-  block_fits b a = alone (stmts_fit b.statements a) a
+  abbrev pub fits_block_layer : Block-F ℕ E FittingPart FittingPart FittingPart → FittingPart
+  fits_block_layer b a = alone (stmts_fit b.statements a) a
 
-  abbrev pub stmt_fits : Stmt-F ℕ E Part Part Part → Part
-  stmt_fits s = s.form
+  abbrev pub fits_stmt_layer : Stmt-F ℕ E FittingPart FittingPart FittingPart → FittingPart
+  fits_stmt_layer s = s.form
 
-  abbrev pub fits_form : Form ℕ E → Part
-  fits_form = fold-Form ℕ E Part Part Part form_fits block_fits stmt_fits
+  abbrev pub fits_form : Form ℕ E → FittingPart
+  fits_form = fold-Form ℕ E FittingPart FittingPart FittingPart fits_form_layer fits_block_layer fits_stmt_layer
 
-  abbrev pub fits_block : Block ℕ E → Part
-  fits_block = fold-Block ℕ E Part Part Part form_fits block_fits stmt_fits
+  abbrev pub fits_block : Block ℕ E → FittingPart
+  fits_block = fold-Block ℕ E FittingPart FittingPart FittingPart fits_form_layer fits_block_layer fits_stmt_layer
 
-  abbrev pub fits_stmt : Stmt ℕ E → Part
-  fits_stmt = fold-Stmt ℕ E Part Part Part form_fits block_fits stmt_fits
+  abbrev pub fits_stmt : Stmt ℕ E → FittingPart
+  fits_stmt = fold-Stmt ℕ E FittingPart FittingPart FittingPart fits_form_layer fits_block_layer fits_stmt_layer
 
   -- the domains, by rising number
   abbrev pub fit_domains : ℕ → List (Block ℕ E) → Bool
@@ -146,12 +146,12 @@ module _ (t : Tables) {E : Type 0} (rules : ValueRules E) where
 
 -- Of an expression with entries it is asked that it may use each of them, whatever it is given to.
 
-abbrev pub is_entry : Tables → terms.Scope → Entry → Bool
+abbrev pub is_entry : Tables → terms.Scope → TableEntry → Bool
 is_entry t scope (entry.Signal s) = can_use t scope s
 is_entry t scope (entry.Channel c) = is_receiver_of t scope.domain c
 is_entry t scope (entry.Variable x) = is_variable_of t scope.domain x
 
-abbrev pub fits_raw_layer : Tables → terms.Scope → Raw-F Entry Bool → Bool
+abbrev pub fits_raw_layer : Tables → terms.Scope → Raw-F TableEntry Bool → Bool
 fits_raw_layer t scope (Raw-F.Literal at v) = true
 fits_raw_layer t scope (Raw-F.Least at v) = true
 fits_raw_layer t scope (Raw-F.Variable at n) = is_entry t scope n
@@ -161,14 +161,14 @@ fits_raw_layer t scope (Raw-F.Cast at k e) = e
 fits_raw_layer t scope (Raw-F.Group at e) = e
 fits_raw_layer t scope (Raw-F.Binary at op l r) = l && r
 
-abbrev pub uses_entries : Tables → terms.Scope → Raw Entry → Bool
-uses_entries t scope = fold-Raw Entry Bool (fits_raw_layer t scope)
+abbrev pub uses_entries : Tables → terms.Scope → Raw TableEntry → Bool
+uses_entries t scope = fold-Raw TableEntry Bool (fits_raw_layer t scope)
 
-abbrev pub value_uses_entries : Tables → terms.Scope → Option (Raw Entry) → Bool
+abbrev pub value_uses_entries : Tables → terms.Scope → Option (Raw TableEntry) → Bool
 value_uses_entries t scope None = true
 value_uses_entries t scope (Some e) = uses_entries t scope e
 
-abbrev pub entry_rules : Tables → ValueRules (Raw Entry)
+abbrev pub entry_rules : Tables → ValueRules (Raw TableEntry)
 entry_rules t =
     record {
       emitted = λ scope k value. value_uses_entries t scope value;

@@ -17,8 +17,8 @@ use Rattle.sj_ast.specs.declared.port.Direction.{Direction}
 use Rattle.sj_ast.specs.declared.port.Direction.TheVariants as direction
 use Rattle.sj_ast.specs.declared.port.Port.{Port}
 use Rattle.sj_ast.specs.declared.port.Port.TheVariants as port
-use Rattle.sj_names.specs.declared.mention.Sort.{Sort}
-use Rattle.sj_names.specs.declared.mention.Sort.TheVariants as sort
+use Rattle.sj_names.specs.declared.mention.NameSort.{NameSort}
+use Rattle.sj_names.specs.declared.mention.NameSort.TheVariants as sort
 use Rattle.sj_names.specs.declared.mention.Role.{Role}
 use Rattle.sj_names.specs.declared.mention.Role.TheVariants as role
 use Rattle.sj_names.specs.declared.mention.Mention.{Mention}
@@ -30,49 +30,49 @@ pub record Told : Type 0 where
   pub mentions : List Mention
 
 -- what a part tells, by the scope before it
-abbrev pub Part : Type 0
-Part = Scope → Told
+abbrev pub NamedPart : Type 0
+NamedPart = Scope → Told
 
 abbrev pub mention : Role → Name → Scope → Mention
 mention r name scope =
     record { at = name.at; role = r; meaning = meaning_in scope.visible name.text }
 
 -- no name
-abbrev pub silent : Part
+abbrev pub silent : NamedPart
 silent scope = record { scope = scope; mentions = [] }
 
 -- names in an unchanged scope
-abbrev pub told : (Scope → List Mention) → Part
+abbrev pub told : (Scope → List Mention) → NamedPart
 told mentions scope = record { scope = scope; mentions = mentions scope }
 
 -- what a part tells behind another
-abbrev pub behind : Told → Part → Told
+abbrev pub behind : Told → NamedPart → Told
 behind t part =
     record { scope = (part t.scope).scope; mentions = t.mentions ++ (part t.scope).mentions }
 
-abbrev pub then : Part → Part → Part
+abbrev pub then : NamedPart → NamedPart → NamedPart
 then first second scope = behind (first scope) second
 
-abbrev pub in_order : List Part → Part
+abbrev pub in_order : List NamedPart → NamedPart
 in_order [] = silent
 in_order (part ∷ parts) = then part (in_order parts)
 
-abbrev pub where_given : Option Part → Part
+abbrev pub where_given : Option NamedPart → NamedPart
 where_given None = silent
 where_given (Some part) = part
 
 -- what is declared in a part is visible up to its end
-abbrev pub closed : Part → Part
+abbrev pub closed : NamedPart → NamedPart
 closed part scope =
     record {
       scope = closed_at (length scope.visible) (part scope).scope;
       mentions = (part scope).mentions;
     }
 
-abbrev pub mentioned : Role → Name → Part
+abbrev pub mentioned : Role → Name → NamedPart
 mentioned r name = told (λ scope. mention r name scope ∷ [])
 
-abbrev pub declared : Sort → Name → Part
+abbrev pub declared : NameSort → Name → NamedPart
 declared s name scope =
     record {
       scope = declare s name.text scope;
@@ -104,24 +104,24 @@ test_layer (Test-F.Either at l r) scope = l scope ++ r scope
 abbrev pub test_mentions : Test Name → Scope → List Mention
 test_mentions = fold-Test Name (Scope → List Mention) (test_layer)
 
-abbrev pub read : Raw Name → Part
+abbrev pub read : Raw Name → NamedPart
 read e = told (expression_mentions e)
 
-abbrev pub read_where_given : Option (Raw Name) → Part
+abbrev pub read_where_given : Option (Raw Name) → NamedPart
 read_where_given None = silent
 read_where_given (Some e) = read e
 
-abbrev pub tested : Test Name → Part
+abbrev pub tested : Test Name → NamedPart
 tested t = told (test_mentions t)
 
 -- a variable is visible behind its first value
-abbrev pub new_variable : Name → Raw Name → Part
+abbrev pub new_variable : Name → Raw Name → NamedPart
 new_variable name value scope = record {
   scope = declare sort.Variable name.text scope;
   mentions = mention (role.Declare sort.Variable) name scope ∷ expression_mentions value scope;
 }
 
-abbrev pub form_layer : Form-F Name (Raw Name) Part Part Part → Part
+abbrev pub form_layer : Form-F Name (Raw Name) NamedPart NamedPart NamedPart → NamedPart
 form_layer Form-F.Empty = silent
 form_layer (Form-F.Par first others) = then first (in_order others)
 form_layer Form-F.Pause = silent
@@ -148,28 +148,28 @@ form_layer (Form-F.Await immediate test) = tested test
 form_layer (Form-F.Every immediate test body) = then (tested test) body
 form_layer (Form-F.Loop body test) = then body (tested test)
 
-abbrev pub block_layer : Block-F Name (Raw Name) Part Part Part → Part
+abbrev pub block_layer : Block-F Name (Raw Name) NamedPart NamedPart NamedPart → NamedPart
 block_layer b = closed (in_order b.statements)
 
-abbrev pub stmt_layer : Stmt-F Name (Raw Name) Part Part Part → Part
+abbrev pub stmt_layer : Stmt-F Name (Raw Name) NamedPart NamedPart NamedPart → NamedPart
 stmt_layer s = s.form
 
-abbrev pub block_part : Block Name (Raw Name) → Part
-block_part = fold-Block Name (Raw Name) Part Part Part (form_layer) block_layer stmt_layer
+abbrev pub block_part : Block Name (Raw Name) → NamedPart
+block_part = fold-Block Name (Raw Name) NamedPart NamedPart NamedPart (form_layer) block_layer stmt_layer
 
-abbrev pub stmt_part : Stmt Name (Raw Name) → Part
-stmt_part = fold-Stmt Name (Raw Name) Part Part Part (form_layer) block_layer stmt_layer
+abbrev pub stmt_part : Stmt Name (Raw Name) → NamedPart
+stmt_part = fold-Stmt Name (Raw Name) NamedPart NamedPart NamedPart (form_layer) block_layer stmt_layer
 
 -- a block that may be given
-abbrev pub other_part : Option (Block Name (Raw Name)) → Part
+abbrev pub other_part : Option (Block Name (Raw Name)) → NamedPart
 other_part None = silent
 other_part (Some b) = block_part b
 
-abbrev pub signal_sort : Direction → Sort
+abbrev pub signal_sort : Direction → NameSort
 signal_sort direction.Input = sort.Input
 signal_sort direction.Output = sort.Output
 
-abbrev pub port_part : Port Name → Part
+abbrev pub port_part : Port Name → NamedPart
 port_part (port.Signal p) = declared (signal_sort p.direction) p.signal.name
 port_part (port.Channel c) = declared sort.Channel c.name
 
@@ -180,7 +180,7 @@ domain_mentions scope (b ∷ bs) =
     (block_part b scope).mentions ∷ domain_mentions (block_part b scope).scope bs
 
 -- the names of the interface and those of each domain, and where the `{` of each domain stands
-pub record TreeNames : Type 0 where
+pub record TreeMentions : Type 0 where
   pub ports : List Mention
   pub domains : List (List Mention)
   pub places : List ℕ
@@ -191,7 +191,7 @@ block_place b = (block.out-Block Name (Raw Name) b).at
 abbrev pub interface_names : Tree Name (Raw Name) → Told
 interface_names tree = in_order (map port_part tree.ports) no_names
 
-abbrev pub names_of_tree : Tree Name (Raw Name) → TreeNames
+abbrev pub names_of_tree : Tree Name (Raw Name) → TreeMentions
 names_of_tree tree = record {
   ports = (interface_names tree).mentions;
   domains = domain_mentions (interface_names tree).scope tree.domains;

@@ -16,14 +16,14 @@ use Rattle.sj_ast.specs.declared.statement.Form.TheFolds.{fold-Form, fold-Block,
 use Rattle.sj_ast.specs.declared.statement.Block as block
 use Rattle.sj_ast.specs.declared.statement.Stmt as stmt
 use Rattle.sj_ast.specs.declared.statement.Tree.{Tree}
-use Rattle.sj_names.specs.declared.mention.Sort.{Sort}
-use Rattle.sj_names.specs.declared.mention.Sort.TheVariants as sort
+use Rattle.sj_names.specs.declared.mention.NameSort.{NameSort}
+use Rattle.sj_names.specs.declared.mention.NameSort.TheVariants as sort
 use Rattle.sj_names.specs.declared.mention.Role.{Role}
 use Rattle.sj_names.specs.declared.mention.Role.TheVariants as role
 use Rattle.sj_names.specs.declared.mention.Meaning.{Meaning}
 use Rattle.sj_names.specs.declared.mention.Counts.{Counts}
-use Rattle.sj_names.specs.declared.entry.Entry.{Entry}
-use Rattle.sj_names.specs.declared.entry.Entry.TheVariants as entry
+use Rattle.sj_names.specs.declared.entry.TableEntry.{TableEntry}
+use Rattle.sj_names.specs.declared.entry.TableEntry.TheVariants as entry
 use Rattle.sj_names.specs.definitions.Scopes.{Scope, no_names, meaning_in, count_of, declare, closed_at}
 use Rattle.sj_names.specs.definitions.Mentions.{signal_sort}
 
@@ -38,33 +38,33 @@ abbrev pub number_of : Role → Name → Scope → ℕ
 number_of r name scope = number_where r (meaning_in scope.visible name.text) scope.counts
 
 -- a `#` reads a channel where its name stands for one, and else a signal
-abbrev pub entry_of_sort : Sort → ℕ → Entry
+abbrev pub entry_of_sort : NameSort → ℕ → TableEntry
 entry_of_sort sort.Channel n = entry.Channel n
 entry_of_sort _ n = entry.Signal n
 
-abbrev pub entry_where : Option Meaning → ℕ → Entry
+abbrev pub entry_where : Option Meaning → ℕ → TableEntry
 entry_where (Some m) n = entry_of_sort m.sort n
 entry_where None n = entry.Signal n
 
-abbrev pub status_entry : Name → Scope → Entry
+abbrev pub status_entry : Name → Scope → TableEntry
 status_entry name scope =
     entry_where (meaning_in scope.visible name.text) (number_of role.Status name scope)
 
 -- an expression has entries of the tables in place of names
 abbrev pub NumberedExpression : Type 0
-NumberedExpression = raw.Raw Entry
+NumberedExpression = raw.Raw TableEntry
 
 abbrev pub NumberedTest : Type 0
 NumberedTest = signal_test.Test ℕ
 
 abbrev pub NumberedForm : Type 0
-NumberedForm = form.Form ℕ (raw.Raw Entry)
+NumberedForm = form.Form ℕ (raw.Raw TableEntry)
 
 abbrev pub NumberedStmt : Type 0
-NumberedStmt = stmt.Stmt ℕ (raw.Raw Entry)
+NumberedStmt = stmt.Stmt ℕ (raw.Raw TableEntry)
 
 abbrev pub NumberedBlock : Type 0
-NumberedBlock = block.Block ℕ (raw.Raw Entry)
+NumberedBlock = block.Block ℕ (raw.Raw TableEntry)
 
 -- a part of the tree with numbers, and the scope behind it
 pub record Numbered (X : Type 0) : Type 0 where
@@ -101,7 +101,7 @@ abbrev pub numbered_value : Option (raw.Raw Name) → Scope → Option NumberedE
 numbered_value None s = None
 numbered_value (Some e) s = Some (numbered_expression e s)
 
-abbrev pub numbered_signal : Sort → Signal Name → Scope → Signal ℕ
+abbrev pub numbered_signal : NameSort → Signal Name → Scope → Signal ℕ
 numbered_signal t signal s =
     record {
       at = signal.at;
@@ -223,7 +223,7 @@ numbered_form_layer (Form-F.Loop body test) s =
 abbrev pub closed_block : ℕ → Scope → Numbered (List NumberedStmt) → Numbered NumberedBlock
 closed_block at s n =
     record {
-      value = block.roll-Block ℕ (raw.Raw Entry) (record { at = at; statements = n.value });
+      value = block.roll-Block ℕ (raw.Raw TableEntry) (record { at = at; statements = n.value });
       scope = closed_at (length s.visible) n.scope;
     }
 
@@ -234,7 +234,7 @@ numbered_block_layer b s = closed_block b.at s (stmts_in_order b.statements s)
 abbrev pub numbered_stmt_layer : Stmt-F Name (raw.Raw Name) FormPart BlockPart StmtPart → StmtPart
 numbered_stmt_layer t s =
     record {
-      value = stmt.roll-Stmt ℕ (raw.Raw Entry) (record {
+      value = stmt.roll-Stmt ℕ (raw.Raw TableEntry) (record {
         at = t.at;
         form = (t.form s).value;
       });
@@ -293,7 +293,7 @@ numbered_ports (p ∷ ps) s =
       scope = (numbered_ports ps (numbered_port p s).scope).scope;
     }
 
-abbrev pub numbered_tree : Tree Name (raw.Raw Name) → Tree ℕ (raw.Raw Entry)
+abbrev pub numbered_tree : Tree Name (raw.Raw Name) → Tree ℕ (raw.Raw TableEntry)
 numbered_tree tree =
     record {
       ports = (numbered_ports tree.ports no_names).value;

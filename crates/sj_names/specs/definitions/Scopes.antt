@@ -1,8 +1,8 @@
 -- Which names are visible, and what they stand for.
 use Rattle.std.specs.Prelude.{ℕ, ◌+◌, cond, List, [], ◌∷◌, ◌++◌, take, Option, Some, None}
 use Rattle.std.specs.Str.{bytes_eq}
-use Rattle.sj_names.specs.declared.mention.Sort.{Sort}
-use Rattle.sj_names.specs.declared.mention.Sort.TheVariants as sort
+use Rattle.sj_names.specs.declared.mention.NameSort.{NameSort}
+use Rattle.sj_names.specs.declared.mention.NameSort.TheVariants as sort
 use Rattle.sj_names.specs.declared.mention.Meaning.{Meaning}
 use Rattle.sj_names.specs.declared.mention.Counts.{Counts}
 
@@ -25,7 +25,7 @@ meaning_in [] name = None
 meaning_in (v ∷ vs) name = cond (bytes_eq name v.name) (Some v.meaning) (meaning_in vs name)
 
 -- the number of the next name of this sort
-abbrev pub count_of : Sort → Counts → ℕ
+abbrev pub count_of : NameSort → Counts → ℕ
 count_of sort.Input n = n.signals
 count_of sort.Output n = n.signals
 count_of sort.Local n = n.signals
@@ -42,7 +42,7 @@ one_signal_more n =
       traps = n.traps;
     }
 
-abbrev pub counted : Sort → Counts → Counts
+abbrev pub counted : NameSort → Counts → Counts
 counted sort.Input n = one_signal_more n
 counted sort.Output n = one_signal_more n
 counted sort.Local n = one_signal_more n
@@ -69,7 +69,7 @@ counted sort.Trap n =
     }
 
 -- a name that is visible isn't declared again
-abbrev pub declared_where : Option Meaning → Sort → List ℕ → Scope → Scope
+abbrev pub declared_where : Option Meaning → NameSort → List ℕ → Scope → Scope
 declared_where (Some m) s name scope = scope
 declared_where None s name scope = record {
   visible =
@@ -78,7 +78,7 @@ declared_where None s name scope = record {
   counts = counted s scope.counts;
 }
 
-abbrev pub declare : Sort → List ℕ → Scope → Scope
+abbrev pub declare : NameSort → List ℕ → Scope → Scope
 declare s name scope = declared_where (meaning_in scope.visible name) s name scope
 
 -- the first names alone are visible

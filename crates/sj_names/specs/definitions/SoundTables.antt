@@ -9,8 +9,8 @@ use Rattle.kernel_terms.specs.WellFormed.{has_names, is_within_limits, interface
 use Rattle.sj_ast.specs.declared.name.Name.{Name}
 use Rattle.sj_ast.specs.declared.port.Port.{Port}
 use Rattle.sj_ast.specs.declared.port.Port.TheVariants as port
-use Rattle.sj_names.specs.declared.mention.Sort.{Sort}
-use Rattle.sj_names.specs.declared.mention.Sort.TheVariants as sort
+use Rattle.sj_names.specs.declared.mention.NameSort.{NameSort}
+use Rattle.sj_names.specs.declared.mention.NameSort.TheVariants as sort
 use Rattle.sj_names.specs.declared.mention.Role.{Role}
 use Rattle.sj_names.specs.declared.mention.Role.TheVariants as role
 use Rattle.sj_names.specs.declared.mention.Meaning.{Meaning}
@@ -40,7 +40,7 @@ abbrev pub is_port_of : Tables → ℕ → ℕ → Bool
 is_port_of t d n = nat_lt n (length t.signals) && is_interface_of d (signal_at t n)
 
 -- the domain's signal of this number has this sort in the tables too
-abbrev pub is_signal_use : Tables → ℕ → Sort → ℕ → Bool
+abbrev pub is_signal_use : Tables → ℕ → NameSort → ℕ → Bool
 is_signal_use t d sort.Input n = is_port_of t d n && entries.is_input (signal_at t n).sort
 is_signal_use t d sort.Output n = is_port_of t d n && not (entries.is_input (signal_at t n).sort)
 is_signal_use t d sort.Local n = is_local_of t d n

@@ -1,5 +1,5 @@
 use Rattle.std.proofs.Common.{◌∙◌, not, get_or, refl, ap, arith}
-use Rattle.sj_names.specs.declared.failure.Fault.TheVariants.{ChannelEnds}
+use Rattle.sj_names.specs.declared.failure.FailureKind.TheVariants.{ChannelEnds}
 use Rattle.sj_names.specs.definitions.Failures.{least_of, where_true, failure_at}
 use Rattle.sj_names.specs.DomainNames.{names_in}
 use Rattle.sj_names.proofs.LeastLemmas.{unjoined_next}

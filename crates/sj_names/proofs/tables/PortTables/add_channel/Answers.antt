@@ -1,6 +1,6 @@
 use Rattle.std.proofs.Common.{◌++◌, ◌∷◌, [], ◌∙◌, ap}
+use Rattle.sj_names.specs.definitions.Failures.{first_domain}
 use Rattle.sj_names.specs.declared.mention.Use.TheVariants.{SendingEnd, ReceivingEnd}
-use Rattle.sj_names.specs.definitions.DeclaredTables.{first_domain}
 use Rattle.sj_names.specs.DomainNames.{names_in}
 use Rattle.sj_names.proofs.DeclaredLemmas.{same_channel}
 use Rattle.sj_names.proofs.tables.PortTables.add_channel.Goals as goal
