@@ -4,7 +4,7 @@ use Rattle.std.specs.Prelude.{Option}
 use Rattle.std.specs.List.{flat_map, list_all}
 use Rattle.kernel_terms.specs.declared.tables.Tables.{Tables}
 use Rattle.kernel_terms.specs.declared.tables.Sort.TheVariants as table_sort
-use Rattle.kernel_terms.specs.WellFormed.{can_emit, is_variable_of, is_sender_of, is_receiver_of, is_local_of, stands_in}
+use Rattle.kernel_terms.specs.WellFormed.{can_emit, is_variable_of, is_sender_of, is_receiver_of, stands_in}
 use Rattle.java_values.specs.declared.kind.Kind.{Kind}
 use Rattle.java_values.specs.declared.op.Op2.{Op2}
 use Rattle.sj_ast.specs.declared.name.Name.{Name}
@@ -27,15 +27,15 @@ use Rattle.sj_names.specs.definitions.Failures.{own_failures}
 use Rattle.sj_names.specs.definitions.SoundTables.{is_sound}
 use Rattle.sj_names.specs.definitions.DeclaredTables.{Declared, nothing, both, all, signal_info, declared_form_layer, declared_block_layer, declared_stmt_layer, declared_form, declared_block, declared_stmt}
 use Rattle.sj_names.specs.definitions.NumberedTrees.{NumberedForm, NumberedBlock, NumberedStmt, BlockPart, StmtPart, FormPart, number_of, numbered_expression, numbered_test, numbered_value, numbered_signal, with_block, with_blocks, with_two, trap_part, plain, blocks_in_order, stmts_in_order, block_where_given, closed_block, numbered_form_layer, numbered_block_layer, numbered_stmt_layer, numbered_form, numbered_block, numbered_stmt}
-use Rattle.sj_names.specs.definitions.FittingTrees.{Around, Fitted, term_scope, in_trap, with_local, alone, blocks_fit, stmts_fit, other_fits, fits_test, is_declared_variable, fits_form_layer, fits_block_layer, fits_stmt_layer, fits_form, fits_block, fits_stmt, uses_entries, value_uses_entries, entry_rules}
+use Rattle.sj_names.specs.definitions.FittingTrees.{Around, Fitted, term_scope, in_trap, with_local, alone, blocks_fit, stmts_fit, other_fits, fits_test, is_declared_signal, is_declared_variable, fits_form_layer, fits_block_layer, fits_stmt_layer, fits_form, fits_block, fits_stmt, uses_entries, value_uses_entries, entry_rules}
 use Rattle.sj_names.specs.definitions.FittingTrees as fitting
 use Rattle.sj_names.proofs.ListedNames.{empty_second}
 use Rattle.sj_names.proofs.EntryLemmas.{AllNamed}
-use Rattle.sj_names.proofs.PartEntries.{StandsAt, pair_true, extends_taken, extends_declared, not_visible, local_entry}
+use Rattle.sj_names.proofs.PartEntries.{StandsAt, pair_true, extends_taken, extends_declared, not_visible}
 use Rattle.sj_names.proofs.DomainEntries.{SourceForm, SourceBlock, SourceStmt, form_part, block_declares, stmt_declares}
 use Rattle.sj_names.proofs.SoundLemmas.{block_same}
 use Rattle.sj_names.proofs.FitValues.{StandsAround, one_holds, second_holds, all_first, all_second, emit_fits, variable_fits, send_fits, receive_fits, exit_fits, raw_fits, value_fits, tests_fit}
-use Rattle.sj_names.proofs.FitParts.{Start, Ended, PartFits, BlockFits, alone_ended, first_start, second_start, behind_read, before_read, number_new, local_visible, trap_visible, variable_visible, own_variable}
+use Rattle.sj_names.proofs.FitParts.{Start, Ended, PartFits, BlockFits, alone_ended, first_start, second_start, behind_read, before_read, number_new, local_visible, trap_visible, variable_visible, own_variable, own_signal}
 
 module _ (t : Tables) (d : ℕ) where
   abbrev pub form_fit : NumberedForm → fitting.FittingPart
@@ -251,7 +251,8 @@ module _ (t : Tables) (d : ℕ) where
         let fresh = not_visible sort.Local signal.name s [] h.own in
         ended_as (form.Declare x) (Form-F.Declare x) a (declare sort.Local signal.name.text s).visible (form_is.rolls-Declare x)
         (record {
-          fits = ap (λ k. is_local_of t k x.name) h.domain ∙ ap (is_local_of t d) (number_new t d sort.Local signal.name s fresh) ∙ local_entry t d s.counts.signals signal h.signals;
+          fits = ap (λ k. is_declared_signal t k x) h.domain ∙ ap (λ n. is_declared_signal t d (record { at = signal.at; name = n; valued = signal.valued })) (number_new t d sort.Local signal.name s fresh)
+              ∙ own_signal t d s.counts.signals signal h.signals;
           domain = h.domain;
           visible = local_visible t d a signal.name s fresh h.visible;
         });

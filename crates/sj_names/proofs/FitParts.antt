@@ -1,13 +1,18 @@
 -- When the numbers of a part fit what is around it, and what is visible behind the part.
-use Rattle.std.proofs.Common.{◌≡◌, ℕ, ◌==◌, Bool, true, false, ◌||◌, nat_lt, List, [], ◌∷◌, ◌++◌, length, None, ap, refl, sym, ◌∙◌, subst}
+use Rattle.std.proofs.Common.{◌≡◌, ℕ, ◌==◌, Bool, true, false, ◌||◌, nat_lt, List, [], ◌∷◌, ◌++◌, length, Some, None, ap, refl, sym, ◌∙◌, subst}
+use Rattle.std.specs.Prelude.{Option}
 use Rattle.std.specs.List.{flat_map, list_all}
 use Rattle.java_values.specs.declared.kind.Kind.{Kind}
 use Rattle.java_values.specs.declared.kind.Kind.TheVariants as kind
 use Rattle.kernel_terms.specs.declared.tables.Tables.{Tables}
 use Rattle.kernel_terms.specs.declared.tables.VariableInfo.{VariableInfo}
-use Rattle.kernel_terms.specs.TableEntries.{no_variable, variable_at}
-use Rattle.kernel_terms.specs.WellFormed.{stands_in, same_kind, is_variable_of}
+use Rattle.kernel_terms.specs.declared.tables.SignalInfo.{SignalInfo}
+use Rattle.kernel_terms.specs.declared.tables.Sort.TheVariants as table_sort
+use Rattle.kernel_terms.specs.TableEntries.{no_signal, no_variable, signal_at, variable_at}
+use Rattle.kernel_terms.specs.WellFormed.{stands_in, same_kind, is_local_of, is_variable_of}
 use Rattle.sj_ast.specs.declared.name.Name.{Name}
+use Rattle.sj_ast.specs.declared.port.Signal.{Signal}
+use Rattle.sj_ast.specs.declared.port.Valued.{Valued}
 use Rattle.sj_names.specs.declared.mention.NameSort.{NameSort}
 use Rattle.sj_names.specs.declared.mention.NameSort.TheVariants as sort
 use Rattle.sj_names.specs.declared.mention.Role.TheVariants as role
@@ -16,12 +21,12 @@ use Rattle.sj_names.specs.definitions.Scopes.{Named, Scope, meaning_in, declare,
 use Rattle.sj_names.specs.definitions.Mentions.{Told, NamedPart}
 use Rattle.sj_names.specs.definitions.Failures.{own_failures}
 use Rattle.sj_names.specs.definitions.SoundTables.{is_sound}
-use Rattle.sj_names.specs.definitions.DeclaredTables.{Declared, both}
+use Rattle.sj_names.specs.definitions.DeclaredTables.{Declared, both, kind_of, signal_info}
 use Rattle.sj_names.specs.definitions.NumberedTrees.{Numbered, number_where, number_of}
-use Rattle.sj_names.specs.definitions.FittingTrees.{Around, Fitted, in_trap, with_local, alone, is_declared_variable}
+use Rattle.sj_names.specs.definitions.FittingTrees.{Around, Fitted, in_trap, with_local, alone, same_value, is_declared_signal, is_declared_variable}
 use Rattle.sj_names.specs.definitions.FittingTrees as fitting
 use Rattle.sj_names.proofs.EntryLemmas.{AllNamed, all_named, one_named_more}
-use Rattle.sj_names.proofs.PartEntries.{StandsAt, stands_first, stands_second, entry_there, CountsFit, first_sound, second_sound, pair_true, is_itself}
+use Rattle.sj_names.proofs.PartEntries.{StandsAt, stands_first, stands_second, entry_there, local_entry, CountsFit, first_sound, second_sound, pair_true, is_itself}
 use Rattle.sj_names.proofs.FitValues.{StandsAround, all_first, all_second}
 
 -- before a part with these names, which declares this
@@ -157,3 +162,12 @@ module _ (t : Tables) (d : ℕ) where
       pair_true (is_variable_of t d n) (same_kind (variable_at t n).kind k)
       (pair_true (nat_lt n (length t.variables)) ((variable_at t n).domain == d) r.0 (ap (λ (i : VariableInfo). i.domain == d) (r.1 ∙ e) ∙ is_itself d))
       (ap (λ (i : VariableInfo). same_kind i.kind k) (r.1 ∙ e) ∙ same_as_itself k)
+
+  same_value_itself : (o : Option Valued) → same_value (kind_of o) (kind_of o) ≡ true
+  same_value_itself None = refl
+  same_value_itself (Some v) = same_as_itself v.kind
+
+  pub own_signal : (n : ℕ) (signal : Signal Name) → StandsAt (signal_info table_sort.Local d signal ∷ []) t.signals n → is_declared_signal t d (record { at = signal.at; name = n; valued = signal.valued }) ≡ true
+  own_signal n signal h =
+      let r = entry_there t.signals n (signal_info table_sort.Local d signal) no_signal h.behind h.is in
+      pair_true (is_local_of t d n) (same_value (signal_at t n).kind (kind_of signal.valued)) (local_entry t d n signal h) (ap (λ (i : SignalInfo). same_value i.kind (kind_of signal.valued)) r.1 ∙ same_value_itself signal.valued)

@@ -20,3 +20,5 @@ pub mod FitParts
 pub mod FitForms
 pub mod FitTrees
 pub mod TrapLemmas
+pub mod FitRowLemmas
+pub mod BindLemmas

@@ -9,3 +9,4 @@ pub mod EndsHere
 pub mod Places
 pub mod NameRows
 pub mod DeclaredNames
+pub mod FitRows

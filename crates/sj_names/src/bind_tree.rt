@@ -9,7 +9,7 @@ ghost use Rattle.sj_names.specs.definitions.SoundTables.{port_name};
 use crate::binding::{BindError, Bound};
 use crate::numbering::numbered_tree;
 use crate::program::TreeNames;
-use crate::sound::{fitting_names, sound_interface, sound_tables};
+use crate::sound::{fitting_names, numbered_trees_are_sound};
 use crate::tables::tables_of_tree;
 use sj_ast::{Name, Raw, Tree};
 use std::alloc::Global;
@@ -27,8 +27,7 @@ pub fn bind(alloc: Global, tree: &Tree<Name, Raw<Name>>) -> Result<Bound, BindEr
         return Err(BindError::Failed(failure));
     }
     fitting_names(tree);
-    sound_tables(tree);
-    sound_interface(tree);
+    numbered_trees_are_sound(tree);
     let tables = tables_of_tree(alloc, &names, tree)?;
     let tree = numbered_tree(alloc, tree)?;
     Ok(Bound { tree, tables })

@@ -24,7 +24,8 @@ pub fn small_interfaces()
 
 /// Names with a failure of each kind, and the first failure; and names with none.
 pub fn small_name_failures()
-    ensures none { first_failure_of (output 1 ∷ []) ((emits 5 0 ∷ emits 6 0 ∷ []) ∷ []) (3 ∷ []) ≡ None }
+    ensures none { first_failure_of (output 1 ∷ []) ((emits 5 0 ∷ emits 6 0 ∷ []) ∷ []) (3 ∷
+        []) ≡ None }
     ensures each_role { first_failure_of [] ((unknown 4 (role.Declare sort.Local) ∷
         known 5 role.Emit sort.Local 0 ∷ known 6 role.Test sort.Local 0 ∷
         known 7 role.Status sort.Local 0 ∷ unknown 8 (role.Declare sort.Variable) ∷
@@ -32,26 +33,34 @@ pub fn small_name_failures()
         known 11 role.Exit sort.Trap 0 ∷ []) ∷ []) (3 ∷ []) ≡ None }
     ensures unknown { first_failure_of [] ((unknown 5 role.Emit ∷ []) ∷ []) (3 ∷ []) ≡
         Some (failure_at fault.Unknown 5) }
-    ensures emitted_trap { first_failure_of [] ((known 6 role.Emit sort.Trap 0 ∷ []) ∷ []) (3 ∷ []) ≡
+    ensures emitted_trap { first_failure_of [] ((known 6 role.Emit sort.Trap 0 ∷ []) ∷ []) (3 ∷
+        []) ≡
         Some (failure_at fault.Unknown 6) }
-    ensures assigned_signal { first_failure_of [] ((known 6 role.Variable sort.Local 0 ∷ []) ∷ []) (3 ∷
+    ensures assigned_signal { first_failure_of [] ((known 6 role.Variable sort.Local 0 ∷ []) ∷
+        []) (3 ∷
         []) ≡ Some (failure_at fault.Unknown 6) }
-    ensures tested_channel { first_failure_of [] ((known 6 role.Test sort.Channel 0 ∷ []) ∷ []) (3 ∷ []) ≡
+    ensures tested_channel { first_failure_of [] ((known 6 role.Test sort.Channel 0 ∷ []) ∷ [])
+        (3 ∷ []) ≡
         Some (failure_at fault.Unknown 6) }
-    ensures sent_signal { first_failure_of [] ((known 6 role.Send sort.Local 0 ∷ []) ∷ []) (3 ∷ []) ≡
+    ensures sent_signal { first_failure_of [] ((known 6 role.Send sort.Local 0 ∷ []) ∷ []) (3 ∷
+        []) ≡
         Some (failure_at fault.Unknown 6) }
     ensures status_of_a_variable { first_failure_of [] ((known 6 role.Status sort.Variable 0 ∷ []) ∷
         []) (3 ∷ []) ≡ Some (failure_at fault.Unknown 6) }
-    ensures exit_of_a_signal { first_failure_of [] ((known 6 role.Exit sort.Local 0 ∷ []) ∷ []) (3 ∷ []) ≡
+    ensures exit_of_a_signal { first_failure_of [] ((known 6 role.Exit sort.Local 0 ∷ []) ∷ [])
+        (3 ∷ []) ≡
         Some (failure_at fault.Unknown 6) }
-    ensures twice { first_failure_of (input 1 ∷ known 2 (role.Declare sort.Output) sort.Input 0 ∷ []) ([] ∷
+    ensures twice { first_failure_of (input 1 ∷ known 2 (role.Declare sort.Output) sort.Input 0 ∷
+        []) ([] ∷
         []) (3 ∷ []) ≡ Some (failure_at fault.Twice 2) }
     ensures shared { first_failure_of (output 1 ∷ []) ((emits 5 0 ∷ []) ∷
         (known 9 role.Test sort.Output 0 ∷ []) ∷ []) (3 ∷ 7 ∷ []) ≡
         Some (failure_at fault.SignalShared 9) }
-    ensures one_each { first_failure_of (output 1 ∷ output 2 ∷ []) ((emits 5 0 ∷ []) ∷ (emits 9 1 ∷ []) ∷
+    ensures one_each { first_failure_of (output 1 ∷ output 2 ∷ []) ((emits 5 0 ∷ []) ∷
+        (emits 9 1 ∷ []) ∷
         []) (3 ∷ 7 ∷ []) ≡ None }
-    ensures shared_before_emitted { first_failure_of (input 1 ∷ []) ((known 5 role.Test sort.Input 0 ∷ []) ∷
+    ensures shared_before_emitted { first_failure_of (input 1 ∷ [])
+        ((known 5 role.Test sort.Input 0 ∷ []) ∷
         (known 9 role.Emit sort.Input 0 ∷ []) ∷ []) (3 ∷ 7 ∷ []) ≡
         Some (failure_at fault.SignalShared 9) }
     ensures emitted_input { first_failure_of (input 1 ∷ []) ((known 5 role.Emit sort.Input 0 ∷ []) ∷
@@ -62,7 +71,8 @@ pub fn small_name_failures()
         Some (failure_at fault.ChannelEnds 1) }
     ensures no_receive { first_failure_of (channel 1 ∷ []) ((sends 5 0 ∷ []) ∷ (looks_at 9 0 ∷ []) ∷
         []) (3 ∷ 7 ∷ []) ≡ Some (failure_at fault.ChannelEnds 1) }
-    ensures second_channel { first_failure_of (channel 1 ∷ channel 2 ∷ []) ((sends 5 0 ∷ sends 6 1 ∷ []) ∷
+    ensures second_channel { first_failure_of (channel 1 ∷ channel 2 ∷ []) ((sends 5 0 ∷
+        sends 6 1 ∷ []) ∷
         (receives 8 0 ∷ []) ∷ []) (3 ∷ 7 ∷ []) ≡ Some (failure_at fault.ChannelEnds 2) }
     ensures send_then_receive { first_failure_of (channel 1 ∷ []) ((sends 5 0 ∷ receives 6 0 ∷ []) ∷
         []) (3 ∷ []) ≡ Some (failure_at fault.ChannelEnds 6) }
@@ -70,11 +80,14 @@ pub fn small_name_failures()
         []) (3 ∷ []) ≡ Some (failure_at fault.ChannelEnds 6) }
     ensures second_sender { first_failure_of (channel 1 ∷ []) ((sends 5 0 ∷ []) ∷ (sends 7 0 ∷ []) ∷
         (receives 9 0 ∷ []) ∷ []) (3 ∷ 6 ∷ 8 ∷ []) ≡ Some (failure_at fault.ChannelEnds 7) }
-    ensures second_receiver { first_failure_of (channel 1 ∷ []) ((looks_at 5 0 ∷ []) ∷ (receives 7 0 ∷ []) ∷
+    ensures second_receiver { first_failure_of (channel 1 ∷ []) ((looks_at 5 0 ∷ []) ∷
+        (receives 7 0 ∷ []) ∷
         (sends 9 0 ∷ []) ∷ []) (3 ∷ 6 ∷ 8 ∷ []) ≡ Some (failure_at fault.ChannelEnds 7) }
-    ensures lesser_place { first_failure_of (channel 1 ∷ []) ((unknown 5 role.Emit ∷ []) ∷ []) (3 ∷ []) ≡
+    ensures lesser_place { first_failure_of (channel 1 ∷ []) ((unknown 5 role.Emit ∷ []) ∷ [])
+        (3 ∷ []) ≡
         Some (failure_at fault.ChannelEnds 1) }
-    ensures too_many_domains { first_failure_of [] (replicate 17 []) (1 ∷ 2 ∷ 3 ∷ 4 ∷ 5 ∷ 6 ∷ 7 ∷ 8 ∷ 9 ∷
+    ensures too_many_domains { first_failure_of [] (replicate 17 []) (1 ∷ 2 ∷ 3 ∷ 4 ∷ 5 ∷ 6 ∷ 7 ∷
+        8 ∷ 9 ∷
         10 ∷ 11 ∷ 12 ∷ 13 ∷ 14 ∷ 15 ∷ 16 ∷ 17 ∷ []) ≡ Some (failure_at fault.TooMany 17) }
 {}
 

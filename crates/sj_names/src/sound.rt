@@ -3,11 +3,13 @@
 ghost use Rattle.std.specs.Prelude.{◌≡◌, ◌≤◌, [], true, length, map};
 ghost use Rattle.std.specs.List.{list_all};
 ghost use Rattle.java_values.specs.Names.{is_name};
+ghost use Rattle.kernel_terms.specs.Limits.{most_traps};
 ghost use Rattle.kernel_terms.specs.WellFormed.{has_names, is_within_limits, interface_comes_first, is_channel_entry, is_variable_entry};
 ghost use Rattle.sj_names.specs.definitions.Mentions.{names_of_tree};
 ghost use Rattle.sj_names.specs.definitions.Failures.{failures_of};
 ghost use Rattle.sj_names.specs.definitions.DeclaredTables.{tables_of_tree};
-ghost use Rattle.sj_names.specs.definitions.SoundTables.{port_name, has_domain, are_sound};
+ghost use Rattle.sj_names.specs.definitions.SoundTables.{AreSoundTables, port_name, has_domain, are_sound};
+ghost use Rattle.sj_names.specs.definitions.NestedTraps.{traps_nest};
 ghost use Rattle.sj_names.specs.definitions.NumberedTrees.{numbered_tree};
 ghost use Rattle.sj_names.specs.definitions.FittingTrees.{fits_tree, entry_rules};
 
@@ -49,7 +51,30 @@ pub fn fitting_names(tree: &Tree<Name, Raw<Name>>)
         (numbered_tree tree.now) ≡ true }
 {}
 
+/// The tables suit the tree with numbers, which has as many domains as the tree, and whose traps nest as deep.
+pub fn numbered_trees_are_sound(tree: &Tree<Name, Raw<Name>>)
+    requires sound { failures_of (names_of_tree tree.now) ≡ [] }
+    requires some { 1 ≤ length tree.now.domains }
+    requires named { list_all is_name (map port_name tree.now.ports) ≡ true }
+    requires traps { traps_nest most_traps tree.now ≡ true }
+    ensures tables { AreSoundTables (tables_of_tree tree.now)
+        (length (numbered_tree tree.now).domains) }
+    ensures some { 1 ≤ length (numbered_tree tree.now).domains }
+    ensures traps { traps_nest most_traps (numbered_tree tree.now) ≡ true }
+{
+    sound_tables(tree);
+    sound_interface(tree);
+}
+
 /// The numbers of a bound tree name entries of its tables that may be used where they stand.
 pub fn bound_trees_fit(bound: &Bound)
     ensures { fits_tree bound.now.tables (entry_rules bound.now.tables) bound.now.tree ≡ true }
+{}
+
+/// The tables of a bound tree keep what is asked of names, limits and entries. It has a domain, and its traps nest at
+/// most 64 deep.
+pub fn bound_trees_are_sound(bound: &Bound)
+    ensures tables { AreSoundTables bound.now.tables (length bound.now.tree.domains) }
+    ensures some { 1 ≤ length bound.now.tree.domains }
+    ensures traps { traps_nest most_traps bound.now.tree ≡ true }
 {}

@@ -65,7 +65,8 @@ abbrev pub condition_of : Tables → raw.Raw TableEntry → Checked expr.Expr
 condition_of t e = then (checked_expression t e) condition
 
 -- A valued signal is emitted with a value, and a pure one without. It is wrong at the signal's name.
-abbrev pub emission : Tables → ℕ → Option Kind → Option (raw.Raw TableEntry) → Checked (Option expr.Expr)
+abbrev pub emission : Tables → ℕ → Option Kind → Option (raw.Raw TableEntry) →
+    Checked (Option expr.Expr)
 emission t at None None = fine None
 emission t at None (Some e) =
     record { value = None; failures = failure.Mismatch at ∷ (checked_expression t e).failures }
@@ -75,7 +76,8 @@ emission t at (Some k) (Some e) = map1 Some (value_for t k e)
 abbrev pub emission_of : Tables → ℕ → ℕ → Option (raw.Raw TableEntry) → Checked (Option expr.Expr)
 emission_of t at s value = emission t at (signal_at t s).kind value
 
-abbrev pub update_of : Tables → (variable sign_at : ℕ) → Op2 → raw.Raw TableEntry → Checked expr.Expr
+abbrev pub update_of : Tables → (variable sign_at : ℕ) → Op2 → raw.Raw TableEntry →
+    Checked expr.Expr
 update_of t n at op e = then (checked_expression t e) (updated (variable_at t n).kind n at op)
 
 -- statements

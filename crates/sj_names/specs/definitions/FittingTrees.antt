@@ -1,11 +1,12 @@
 -- Whether the numbers of a tree name entries of the tables that may be used where they stand.
-use Rattle.std.specs.Prelude.{ℕ, suc, Bool, true, ◌&&◌, List, [], ◌∷◌, length, Option, Some, None}
+use Rattle.std.specs.Prelude.{ℕ, suc, Bool, true, false, ◌&&◌, List, [], ◌∷◌, length, Option, Some, None}
 use Rattle.java_values.specs.declared.kind.Kind.{Kind}
 use Rattle.java_values.specs.declared.kind.Kind.TheVariants as kind
 use Rattle.kernel_terms.specs.declared.tables.Tables.{Tables}
 use Rattle.kernel_terms.specs.TableEntries.{signal_at, channel_at, variable_at}
 use Rattle.kernel_terms.specs.WellFormed as terms
 use Rattle.kernel_terms.specs.WellFormed.{can_use, can_emit, is_variable_of, is_sender_of, is_receiver_of, is_local_of, same_kind, stands_in}
+use Rattle.sj_ast.specs.declared.port.Signal.{Signal}
 use Rattle.sj_ast.specs.declared.expression.Raw.{Raw}
 use Rattle.sj_ast.specs.declared.expression.Raw.TheOpen.{Raw-F}
 use Rattle.sj_ast.specs.declared.expression.Raw.TheFolds.{fold-Raw}
@@ -20,6 +21,7 @@ use Rattle.sj_ast.specs.declared.statement.Stmt.{Stmt}
 use Rattle.sj_ast.specs.declared.statement.Tree.{Tree}
 use Rattle.sj_names.specs.declared.entry.TableEntry.{TableEntry}
 use Rattle.sj_names.specs.declared.entry.TableEntry.TheVariants as entry
+use Rattle.sj_names.specs.definitions.DeclaredTables.{kind_of}
 
 -- the domain in which a part stands, the traps around it, and the local signals that are visible there, innermost first
 pub record Around : Type 0 where
@@ -80,7 +82,16 @@ fits_test_layer t scope (Test-F.Either at u v) = u && v
 abbrev pub fits_test : Tables → terms.Scope → Test ℕ → Bool
 fits_test t scope = fold-Test ℕ Bool (fits_test_layer t scope)
 
--- a declared variable's entry is its own
+abbrev pub same_value : Option Kind → Option Kind → Bool
+same_value None None = true
+same_value (Some k) (Some l) = same_kind k l
+same_value _ _ = false
+
+-- a declared local signal's entry is its own, and so is a declared variable's
+abbrev pub is_declared_signal : Tables → ℕ → Signal ℕ → Bool
+is_declared_signal t d s =
+    is_local_of t d s.name && same_value (signal_at t s.name).kind (kind_of s.valued)
+
 abbrev pub is_declared_variable : Tables → ℕ → Kind → ℕ → Bool
 is_declared_variable t d k x = is_variable_of t d x && same_kind (variable_at t x).kind k
 
@@ -91,19 +102,24 @@ module _ (t : Tables) {E : Type 0} (rules : ValueRules E) where
   fits_form_layer Form-F.Pause a = alone true a
   fits_form_layer Form-F.Halt a = alone true a
   fits_form_layer (Form-F.Emit at s value) a =
-      alone (can_emit t (term_scope a) s && rules.emitted (term_scope a) (signal_at t s).kind value) a
+      alone (can_emit t (term_scope a) s &&
+      rules.emitted (term_scope a) (signal_at t s).kind value) a
   fits_form_layer (Form-F.Sustain at s value) a =
-      alone (can_emit t (term_scope a) s && rules.emitted (term_scope a) (signal_at t s).kind value) a
+      alone (can_emit t (term_scope a) s &&
+      rules.emitted (term_scope a) (signal_at t s).kind value) a
   fits_form_layer (Form-F.Declare signal) a =
-      record { fits = is_local_of t a.domain signal.name; around = with_local signal.name a }
+      record { fits = is_declared_signal t a.domain signal; around = with_local signal.name a }
   fits_form_layer (Form-F.Variable k at x value) a =
       alone (is_declared_variable t a.domain k x && rules.given (term_scope a) k value) a
   fits_form_layer (Form-F.Assign at x value) a =
-      alone (is_variable_of t a.domain x && rules.given (term_scope a) (variable_at t x).kind value) a
+      alone (is_variable_of t a.domain x &&
+      rules.given (term_scope a) (variable_at t x).kind value) a
   fits_form_layer (Form-F.Update at x sign_at op value) a =
-      alone (is_variable_of t a.domain x && rules.given (term_scope a) (variable_at t x).kind value) a
+      alone (is_variable_of t a.domain x &&
+      rules.given (term_scope a) (variable_at t x).kind value) a
   fits_form_layer (Form-F.If cond first other) a =
-      alone (rules.given (term_scope a) kind.Boolean cond && ((first a).fits && other_fits other a)) a
+      alone (rules.given (term_scope a) kind.Boolean cond &&
+      ((first a).fits && other_fits other a)) a
   fits_form_layer (Form-F.Present test first other) a =
       alone (fits_test t (term_scope a) test && ((first a).fits && other_fits other a)) a
   fits_form_layer (Form-F.While body) a = alone (body a).fits a
@@ -119,7 +135,8 @@ module _ (t : Tables) {E : Type 0} (rules : ValueRules E) where
   fits_form_layer (Form-F.Await immediate test) a = alone (fits_test t (term_scope a) test) a
   fits_form_layer (Form-F.Every immediate test body) a =
       alone (fits_test t (term_scope a) test && (body a).fits) a
-  fits_form_layer (Form-F.Loop body test) a = alone ((body a).fits && fits_test t (term_scope a) test) a
+  fits_form_layer (Form-F.Loop body test) a =
+      alone ((body a).fits && fits_test t (term_scope a) test) a
 
   abbrev pub fits_block_layer : Block-F ℕ E FittingPart FittingPart FittingPart → FittingPart
   fits_block_layer b a = alone (stmts_fit b.statements a) a
@@ -128,13 +145,19 @@ module _ (t : Tables) {E : Type 0} (rules : ValueRules E) where
   fits_stmt_layer s = s.form
 
   abbrev pub fits_form : Form ℕ E → FittingPart
-  fits_form = fold-Form ℕ E FittingPart FittingPart FittingPart fits_form_layer fits_block_layer fits_stmt_layer
+  fits_form =
+      fold-Form ℕ E FittingPart FittingPart FittingPart fits_form_layer fits_block_layer
+      fits_stmt_layer
 
   abbrev pub fits_block : Block ℕ E → FittingPart
-  fits_block = fold-Block ℕ E FittingPart FittingPart FittingPart fits_form_layer fits_block_layer fits_stmt_layer
+  fits_block =
+      fold-Block ℕ E FittingPart FittingPart FittingPart fits_form_layer fits_block_layer
+      fits_stmt_layer
 
   abbrev pub fits_stmt : Stmt ℕ E → FittingPart
-  fits_stmt = fold-Stmt ℕ E FittingPart FittingPart FittingPart fits_form_layer fits_block_layer fits_stmt_layer
+  fits_stmt =
+      fold-Stmt ℕ E FittingPart FittingPart FittingPart fits_form_layer fits_block_layer
+      fits_stmt_layer
 
   -- the domains, by rising number
   abbrev pub fit_domains : ℕ → List (Block ℕ E) → Bool

@@ -155,10 +155,12 @@ abbrev pub stmt_layer : Stmt-F Name (Raw Name) NamedPart NamedPart NamedPart →
 stmt_layer s = s.form
 
 abbrev pub block_part : Block Name (Raw Name) → NamedPart
-block_part = fold-Block Name (Raw Name) NamedPart NamedPart NamedPart (form_layer) block_layer stmt_layer
+block_part =
+    fold-Block Name (Raw Name) NamedPart NamedPart NamedPart form_layer block_layer stmt_layer
 
 abbrev pub stmt_part : Stmt Name (Raw Name) → NamedPart
-stmt_part = fold-Stmt Name (Raw Name) NamedPart NamedPart NamedPart (form_layer) block_layer stmt_layer
+stmt_part =
+    fold-Stmt Name (Raw Name) NamedPart NamedPart NamedPart form_layer block_layer stmt_layer
 
 -- a block that may be given
 abbrev pub other_part : Option (Block Name (Raw Name)) → NamedPart
