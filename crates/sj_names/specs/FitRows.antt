@@ -5,15 +5,18 @@ use Rattle.java_values.specs.declared.kind.Kind.TheVariants.{Int}
 use Rattle.java_values.specs.declared.op.Op2.TheVariants.{Add}
 use Rattle.kernel_terms.specs.declared.tables.Sort.TheVariants as sort
 use Rattle.kernel_terms.specs.declared.tables.Tables.{Tables}
+use Rattle.sj_ast.specs.declared.expression.Raw as raw
 use Rattle.sj_ast.specs.declared.expression.Raw.TheOpen.{Raw-F}
 use Rattle.sj_ast.specs.declared.test.Test as signal_test
+use Rattle.sj_ast.specs.declared.test.Test.TheOpen.{Test-F}
 use Rattle.sj_ast.specs.declared.statement.Form as form
 use Rattle.sj_ast.specs.declared.statement.Form.TheOpen.{Form-F}
 use Rattle.sj_ast.specs.declared.statement.Block as block
 use Rattle.sj_ast.specs.declared.statement.Stmt as stmt
 use Rattle.sj_ast.specs.declared.statement.Tree.{Tree}
 use Rattle.sj_names.specs.declared.entry.TableEntry.{TableEntry}
-use Rattle.sj_names.specs.definitions.FittingTrees.{FittingPart, ValueRules, term_scope, at_start, fits_form_layer, fits_block_layer, fits_raw_layer}
+use Rattle.sj_names.specs.declared.entry.TableEntry.TheVariants as entry
+use Rattle.sj_names.specs.definitions.FittingTrees.{FittingPart, ValueRules, term_scope, at_start, fits_form_layer, fits_block_layer, fits_test_layer, fits_raw_layer}
 use Rattle.sj_names.specs.NameRows.{pure_signal, int_channel}
 
 -- Domain 0 has the input 0, the output 1, the local signal 3 and the variable 0. Domain 1 has the output 2. Channel 0 goes
@@ -99,6 +102,16 @@ status_fits d n = fits_raw_layer small (term_scope (at_start d)) (Raw-F.Status 0
 
 abbrev pub name_fits : ℕ → TableEntry → Bool
 name_fits d n = fits_raw_layer small (term_scope (at_start d)) (Raw-F.Variable 0 n)
+
+-- whether a test or an expression of domain 0 fits, by whether its parts do
+abbrev pub tests_as : Test-F ℕ Bool → Bool
+tests_as = fits_test_layer small (term_scope (at_start 0))
+
+abbrev pub reads_as : Raw-F TableEntry Bool → Bool
+reads_as = fits_raw_layer small (term_scope (at_start 0))
+
+abbrev pub of_variable : ℕ → raw.Raw TableEntry
+of_variable x = raw.Variable 0 (entry.Variable x)
 
 -- trees of domains that emit one signal each
 abbrev pub emitting : ℕ → block.Block ℕ Bool

@@ -2,10 +2,14 @@
 
 ghost use Rattle.std.specs.Prelude.{◌≡◌, ◌∷◌, [], None, Some, true, false};
 ghost use Rattle.java_values.specs.declared.kind.Kind.TheVariants as kind;
+ghost use Rattle.java_values.specs.declared.op.Op1.TheVariants.{BitNot};
+ghost use Rattle.java_values.specs.declared.op.Op2.TheVariants.{Add};
+ghost use Rattle.sj_ast.specs.declared.expression.Raw.TheOpen.{Raw-F};
+ghost use Rattle.sj_ast.specs.declared.test.Test.TheOpen.{Test-F};
 ghost use Rattle.sj_ast.specs.declared.statement.Form.TheOpen.{Form-F};
 ghost use Rattle.sj_names.specs.declared.entry.TableEntry.TheVariants as entry;
-ghost use Rattle.sj_names.specs.definitions.FittingTrees.{fits_tree};
-ghost use Rattle.sj_names.specs.FitRows.{small, judged, a_form, in_block, fits_in, exits, in_trap_of, declares, declares_valued, emits, sustains, new_variable, assigns, updates, sends, receives, of_signal, wrong, fine, status_fits, name_fits, emitting, tree_of};
+ghost use Rattle.sj_names.specs.definitions.FittingTrees.{term_scope, at_start, fits_tree, entry_rules};
+ghost use Rattle.sj_names.specs.FitRows.{small, judged, a_form, in_block, fits_in, exits, in_trap_of, declares, declares_valued, emits, sustains, new_variable, assigns, updates, sends, receives, of_signal, wrong, fine, status_fits, name_fits, tests_as, reads_as, of_variable, emitting, tree_of};
 
 /// Which exits, and which uses and declarations of signals, fit where they stand.
 pub fn small_exits_and_signals()
@@ -64,6 +68,32 @@ pub fn small_values_and_channels()
     ensures status_of_a_signal_elsewhere { status_fits 1 (entry.Signal 1) ≡ false }
     ensures name_of_a_variable { name_fits 0 (entry.Variable 0) ≡ true }
     ensures name_of_a_variable_elsewhere { name_fits 1 (entry.Variable 0) ≡ false }
+{}
+
+/// A test or an expression doesn't fit where a part of it doesn't.
+pub fn small_tests_and_expressions()
+    ensures negated { tests_as (Test-F.Not 0 false) ≡ false }
+    ensures test_in_parentheses { tests_as (Test-F.Group 0 false) ≡ false }
+    ensures left_of_both { tests_as (Test-F.Both 0 false true) ≡ false }
+    ensures right_of_both { tests_as (Test-F.Both 0 true false) ≡ false }
+    ensures left_of_either { tests_as (Test-F.Either 0 false true) ≡ false }
+    ensures right_of_either { tests_as (Test-F.Either 0 true false) ≡ false }
+    ensures operand { reads_as (Raw-F.Unary 0 BitNot false) ≡ false }
+    ensures converted { reads_as (Raw-F.Cast 0 kind.Int false) ≡ false }
+    ensures in_parentheses { reads_as (Raw-F.Group 0 false) ≡ false }
+    ensures left_operand { reads_as (Raw-F.Binary 0 Add false true) ≡ false }
+    ensures right_operand { reads_as (Raw-F.Binary 0 Add true false) ≡ false }
+    ensures given { (entry_rules small).given (term_scope (at_start 0)) kind.Int (of_variable 0)
+        ≡ true }
+    ensures given_elsewhere { (entry_rules small).given (term_scope (at_start 1)) kind.Int
+        (of_variable 0)
+        ≡ false }
+    ensures emitted { (entry_rules small).emitted (term_scope (at_start 0)) None (Some
+        (of_variable 0))
+        ≡ true }
+    ensures emitted_elsewhere { (entry_rules small).emitted (term_scope (at_start 1)) None (Some
+        (of_variable 0))
+        ≡ false }
 {}
 
 /// A statement doesn't fit where a part of it doesn't; and domains are numbered from 0 on.

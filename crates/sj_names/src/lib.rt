@@ -29,7 +29,9 @@ pub use bind_tree::bind;
 pub use binding::{BindError, Bound};
 pub use entry::TableEntry;
 pub use failure::{Failure, FailureKind};
-pub use fit_rows::{small_exits_and_signals, small_parts, small_values_and_channels};
+pub use fit_rows::{
+    small_exits_and_signals, small_parts, small_tests_and_expressions, small_values_and_channels,
+};
 pub use mention::{Counts, Group, Meaning, Mention, NameSort, Role, Use};
 pub use numbering::numbered_tree;
 pub use program::TreeNames;
