@@ -29,7 +29,7 @@ pub record GivesThen {X Y : Type 0} (c : Checked X) (f : X → Checked Y) (y : Y
 pub some_is : {X : Type 0} (x y : X) → Some x ≡ Some y → y ≡ x
 some_is x y h = cc
 
-first_nil : {X : Type 0} (xs ys : List X) → xs ++ ys ≡ [] → xs ≡ []
+pub first_nil : {X : Type 0} (xs ys : List X) → xs ++ ys ≡ [] → xs ≡ []
 first_nil [] ys h = refl
 first_nil (x ∷ xs) ys h = absurd (cc)
 

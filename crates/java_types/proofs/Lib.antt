@@ -1,4 +1,5 @@
 pub mod FittingForms
+pub mod FittingCombinations
 pub mod CheckParts
 pub mod TypedExpressions
 pub mod LiteralLemmas

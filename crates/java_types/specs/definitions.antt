@@ -5,3 +5,4 @@ pub mod Conversions
 pub mod TypedTrees
 pub mod Typings
 pub mod FittingKinds
+pub mod Combinations

@@ -53,9 +53,10 @@ fn joined(alloc: Global, parts: (&[u8], &[u8])) -> Result<(Vec<u8>, u32), Fail> 
 
 #[test]
 fn kinds_that_fit(rt: HostRuntime) -> Result<(), Fail> {
-    let cases: [&[u8]; 12] = [
+    let cases: [&[u8]; 13] = [
         b"y=127;y=-128;y=(5);y=-(5);y=(-(5));y='a';y=0xffffffff;",
         b"s='a';s=-'a';s=y;c=65;c=65535;c=-0;",
+        b"byte d=-(5);char e=65;short f='a';long g=y;",
         b"i=y;i=s;i=c;i=-2147483648;l=i;l=c;l=-2147483648;l=-9223372036854775808L;",
         b"i=1/5;i=1/(5);i=1/-5;i=1/((-5));i=1/'a';i=1/-2147483648;i=1%5;",
         b"l=1/5L;l=1/-5L;l=1/-9223372036854775808L;i/=5;y%=-5;",

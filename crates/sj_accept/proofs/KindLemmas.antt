@@ -8,10 +8,11 @@ use Rattle.sj_names.specs.definitions.DeclaredTables.{tables_of_tree}
 use Rattle.java_types.specs.declared.failure.TypeFailure.{TypeFailure}
 use Rattle.java_types.specs.declared.trees.Typed.{Typed}
 use Rattle.java_types.specs.definitions.Checks.{Checked, first_of}
-use Rattle.java_types.specs.definitions.TypedTrees.{checked_tree}
+use Rattle.java_types.specs.definitions.TypedTrees.{TypedTree, checked_tree}
 use Rattle.java_types.specs.definitions.Typings.{IsTyping}
-use Rattle.sj_accept.specs.definitions.Sources.{SourceTree, IsParsed}
-use Rattle.sj_accept.specs.definitions.Kinds.{TypedTree, checked_source, kind_failures, typed_tree}
+use Rattle.sj_grammar.specs.definitions.SourceTrees.{SourceTree}
+use Rattle.sj_accept.specs.definitions.Sources.{IsParsed}
+use Rattle.sj_accept.specs.definitions.Kinds.{checked_source, kind_failures, typed_tree}
 use Rattle.sj_accept.specs.definitions.Programs.{LoweredProgram, lowered, lowered_where, program_of}
 use Rattle.sj_accept.specs.definitions.Refusals.{FailsByKind}
 

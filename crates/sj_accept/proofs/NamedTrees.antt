@@ -22,7 +22,7 @@ use Rattle.sj_names.specs.definitions.Mentions.{NamedPart, silent, then, in_orde
 use Rattle.kernel_terms.specs.declared.tables.Tables.{Tables}
 use Rattle.sj_names.specs.definitions.DeclaredTables.{Declared, nothing, port_signals, port_channels, declared_domains, tables_of_tree}
 use Rattle.sj_names.specs.definitions.Failures.{failures_of}
-use Rattle.sj_accept.specs.definitions.Sources.{SourceTree}
+use Rattle.sj_grammar.specs.definitions.SourceTrees.{SourceTree}
 
 -- trees
 

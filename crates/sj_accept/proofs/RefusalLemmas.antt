@@ -18,7 +18,8 @@ use Rattle.sj_accept.specs.declared.refusal.Refusal.{Refusal}
 use Rattle.sj_accept.specs.declared.refusal.Refusal.TheVariants as refusal
 use Rattle.java_types.specs.declared.failure.TypeFailure.{TypeFailure}
 use Rattle.java_types.specs.definitions.Checks.{first_of}
-use Rattle.sj_accept.specs.definitions.Sources.{SourceTree, IsParsed}
+use Rattle.sj_grammar.specs.definitions.SourceTrees.{SourceTree}
+use Rattle.sj_accept.specs.definitions.Sources.{IsParsed}
 use Rattle.sj_accept.specs.definitions.Kinds.{kind_failures}
 use Rattle.sj_accept.specs.definitions.Accepted.{IsAccepted}
 use Rattle.sj_accept.specs.definitions.Refusals.{IsUnaccepted, IsRefusedFor}

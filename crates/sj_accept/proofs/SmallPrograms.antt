@@ -15,7 +15,8 @@ use Rattle.sj_ast.specs.declared.name.Name.{Name}
 use Rattle.sj_grammar.specs.definitions.Trees.{tree_of}
 use Rattle.sj_names.specs.definitions.Mentions.{NamedPart}
 use Rattle.sj_names.specs.definitions.DeclaredTables.{tables_of_tree}
-use Rattle.sj_accept.specs.definitions.Sources.{SourceTree, IsParsed}
+use Rattle.sj_grammar.specs.definitions.SourceTrees.{SourceTree}
+use Rattle.sj_accept.specs.definitions.Sources.{IsParsed}
 use Rattle.sj_accept.specs.definitions.BuiltTables.{tables_are_built}
 use Rattle.sj_accept.specs.definitions.Lowering.{term_at, int_expression}
 use Rattle.sj_accept.specs.definitions.Programs.{LoweredProgram, domain_statements}

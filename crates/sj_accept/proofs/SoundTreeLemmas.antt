@@ -24,7 +24,7 @@ use Rattle.java_types.specs.definitions.FittingKinds.{kind_rules}
 use Rattle.java_types.specs.definitions.TypedTrees.{TypedBlock, checked_block, checked_tree, with_domains}
 use Rattle.java_types.specs.definitions.Typings.{IsTyping}
 use Rattle.sj_accept.specs.Lowered.{IsSound}
-use Rattle.sj_accept.specs.definitions.Sources.{SourceTree}
+use Rattle.sj_grammar.specs.definitions.SourceTrees.{SourceTree}
 use Rattle.sj_accept.proofs.KindLemmas.{tables_of_typing}
 
 -- the typed tree has as many domains

@@ -13,7 +13,8 @@ use Rattle.sj_grammar.specs.definitions.Programs as grammar
 use Rattle.sj_grammar.specs.definitions.Programs.{NoPort, PortThen, print_ports, IsPorts, print_program, IsProgram}
 use Rattle.sj_grammar.specs.definitions.Trees as trees
 use Rattle.sj_grammar.specs.definitions.Trees.{tree_of}
-use Rattle.sj_accept.specs.definitions.Sources.{SourceTree, IsParsed}
+use Rattle.sj_grammar.specs.definitions.SourceTrees.{SourceTree}
+use Rattle.sj_accept.specs.definitions.Sources.{IsParsed}
 use Rattle.sj_accept.specs.definitions.Programs.{LoweredProgram, program_of}
 use Rattle.sj_accept.specs.definitions.Accepted.{IsSourceOf}
 use Rattle.sj_accept.specs.Lowered.{IsWhole}

@@ -6,7 +6,7 @@ use Rattle.kernel_terms.specs.declared.expr.Expr.{Expr}
 use Rattle.kernel_terms.specs.declared.term.Term.{Term}
 use Rattle.kernel_terms.specs.declared.term.Form as term_form
 use Rattle.kernel_terms.specs.declared.tables.Tables.{Tables}
-use Rattle.kernel_terms.specs.Divisors.{has_divisors}
+use Rattle.kernel_terms.specs.Divisors.{has_divisors, divisors_are_allowed}
 use Rattle.kernel_terms.specs.Expressions.{Literal, expression}
 use Rattle.kernel_terms.specs.Statements.{statement}
 use Rattle.kernel_terms.specs.TableEntries.{signal_at, channel_at}
@@ -46,14 +46,14 @@ fits_of f b a h g = ap (λ (x : Fitted). x.fits) (sym h) ∙ g
 pub term_of_empty : (s : TypedStmt) (t : Term) → s.form ≡ form.Empty → t.form ≡ term_form.Nothing → IsTermOf s t
 term_of_empty s t h k = record {
   built = built-Nothing t k;
-  fits = λ x a f. ap (fits_statement x (term_scope a)) (statement-Nothing t k);
+  fits = λ x a f. record { keeps = ap (fits_statement x (term_scope a)) (statement-Nothing t k); divisors = ap divisors_are_allowed (statement-Nothing t k) };
   around = λ x a. around_of (fits_stmt x (kind_rules x) s a) true a (fits-Empty x (kind_rules x) s a h);
 }
 
 pub term_of_pause : (s : TypedStmt) (t : Term) → s.form ≡ form.Pause → t.form ≡ term_form.Pause → IsTermOf s t
 term_of_pause s t h k = record {
   built = built-Pause t k;
-  fits = λ x a f. ap (fits_statement x (term_scope a)) (statement-Pause t k);
+  fits = λ x a f. record { keeps = ap (fits_statement x (term_scope a)) (statement-Pause t k); divisors = ap divisors_are_allowed (statement-Pause t k) };
   around = λ x a. around_of (fits_stmt x (kind_rules x) s a) true a (fits-Pause x (kind_rules x) s a h);
 }
 
@@ -66,15 +66,22 @@ pub term_of_emission : (s : TypedStmt) (t : Term) (at n : ℕ) → s.form ≡ fo
 term_of_emission s t at n h k = record {
   built = built-Emit t n k;
   fits = λ x a f.
-      ap (fits_statement x (term_scope a)) (statement-Emit t n k)
-      ∙ emission_fits (can_emit x (term_scope a) n) (is_emission x (term_scope a) (signal_at x n).kind None) (fits_of (fits_stmt x (kind_rules x) s a) _ a (fits-Emit x (kind_rules x) s a at n h) f);
+      record {
+        keeps = ap (fits_statement x (term_scope a)) (statement-Emit t n k)
+            ∙ emission_fits (can_emit x (term_scope a) n) (is_emission x (term_scope a) (signal_at x n).kind None) (fits_of (fits_stmt x (kind_rules x) s a) _ a (fits-Emit x (kind_rules x) s a at n h) f);
+        divisors = ap divisors_are_allowed (statement-Emit t n k);
+      };
   around = λ x a. around_of (fits_stmt x (kind_rules x) s a) _ a (fits-Emit x (kind_rules x) s a at n h);
 }
 
 pub term_of_reception : (s : TypedStmt) (t : Term) (at c : ℕ) → s.form ≡ form.Receive at c → t.form ≡ term_form.Receive c → IsTermOf s t
 term_of_reception s t at c h k = record {
   built = built-Receive t c k;
-  fits = λ x a f. ap (fits_statement x (term_scope a)) (statement-Receive t c k) ∙ fits_of (fits_stmt x (kind_rules x) s a) _ a (fits-Receive x (kind_rules x) s a at c h) f;
+  fits = λ x a f.
+      record {
+        keeps = ap (fits_statement x (term_scope a)) (statement-Receive t c k) ∙ fits_of (fits_stmt x (kind_rules x) s a) _ a (fits-Receive x (kind_rules x) s a at c h) f;
+        divisors = ap divisors_are_allowed (statement-Receive t c k);
+      };
   around = λ x a. around_of (fits_stmt x (kind_rules x) s a) _ a (fits-Receive x (kind_rules x) s a at c h);
 }
 
@@ -86,16 +93,24 @@ term_of_sending s t at c e n h l k =
       built = built-Send t c (int_expression n) n k v;
       fits = λ x a f.
           let g = both (is_sender_of x a.domain c) (is_given x (term_scope a) (channel_at x c).kind (expression e) && has_divisors (expression e)) (fits_of (fits_stmt x (kind_rules x) s a) _ a (fits-Send x (kind_rules x) s a at c e h) f) in
-          ap (fits_statement x (term_scope a)) (statement-Send t c (int_expression n) n k v)
-          ∙ and_true (is_sender_of x a.domain c) (is_given x (term_scope a) (channel_at x c).kind (Literal Int n)) g.0
-          (ap (is_given x (term_scope a) (channel_at x c).kind) (sym w) ∙ (both (is_given x (term_scope a) (channel_at x c).kind (expression e)) (has_divisors (expression e)) g.1).0);
+          let value = both (is_given x (term_scope a) (channel_at x c).kind (expression e)) (has_divisors (expression e)) g.1 in
+          record {
+            keeps = ap (fits_statement x (term_scope a)) (statement-Send t c (int_expression n) n k v)
+                ∙ and_true (is_sender_of x a.domain c) (is_given x (term_scope a) (channel_at x c).kind (Literal Int n)) g.0 (ap (is_given x (term_scope a) (channel_at x c).kind) (sym w) ∙ value.0);
+            divisors = ap divisors_are_allowed (statement-Send t c (int_expression n) n k v) ∙ ap has_divisors (sym w) ∙ value.1;
+          };
       around = λ x a. around_of (fits_stmt x (kind_rules x) s a) _ a (fits-Send x (kind_rules x) s a at c e h);
     }
 
 pub term_of_loop : (s : TypedStmt) (t : Term) (b : TypedBlock) (body : Term) → s.form ≡ form.While b → t.form ≡ term_form.Loop body → IsTermOfBlock b body → IsTermOf s t
 term_of_loop s t b body h k i = record {
   built = built-Loop t body k i.built;
-  fits = λ x a f. ap (fits_statement x (term_scope a)) (statement-Loop t body k) ∙ i.fits x a (fits_of (fits_stmt x (kind_rules x) s a) _ a (fits-While x (kind_rules x) s a b h) f);
+  fits = λ x a f.
+      let inner = i.fits x a (fits_of (fits_stmt x (kind_rules x) s a) _ a (fits-While x (kind_rules x) s a b h) f) in
+      record {
+        keeps = ap (fits_statement x (term_scope a)) (statement-Loop t body k) ∙ inner.keeps;
+        divisors = ap divisors_are_allowed (statement-Loop t body k) ∙ inner.divisors;
+      };
   around = λ x a. around_of (fits_stmt x (kind_rules x) s a) _ a (fits-While x (kind_rules x) s a b h);
 }
 

@@ -12,11 +12,13 @@ use Rattle.kernel_terms.specs.MayEnd.{LoopsWait}
 use Rattle.tick_tree.specs.definitions.Weight.{weight_of, most_weight, capped}
 use Rattle.sj_names.specs.definitions.Mentions.{names_of_tree}
 use Rattle.sj_names.specs.definitions.Failures.{failures_of}
+use Rattle.java_types.specs.definitions.TypedTrees.{TypedTree}
 use Rattle.sj_accept.specs.BuiltTerms.{AreBuilt}
 use Rattle.sj_accept.specs.StaticRules.{AllKeepStaticRules}
 use Rattle.sj_accept.specs.Lowered.{IsSystemOf}
-use Rattle.sj_accept.specs.definitions.Sources.{SourceTree, IsParsed}
-use Rattle.sj_accept.specs.definitions.Kinds.{TypedTree, kind_failures}
+use Rattle.sj_grammar.specs.definitions.SourceTrees.{SourceTree}
+use Rattle.sj_accept.specs.definitions.Sources.{IsParsed}
+use Rattle.sj_accept.specs.definitions.Kinds.{kind_failures}
 use Rattle.sj_accept.specs.definitions.Programs.{LoweredProgram, lowered, program_of, domain_statements}
 use Rattle.sj_accept.specs.definitions.Systems.{Accepts}
 use Rattle.sj_accept.specs.definitions.Refusals.{IsUnaccepted}
@@ -108,4 +110,5 @@ accepts source tree x typed system few t f g l r k =
       domains = r.domains;
       entries = r.entries;
       built = all_forms r.program.terms r.built;
+      divisors = r.divisors;
     }

@@ -11,15 +11,15 @@ use Rattle.kernel_terms.specs.declared.tables.Sort.TheVariants as sort
 use Rattle.kernel_terms.specs.declared.tables.Combine.{Combine}
 use Rattle.kernel_terms.specs.declared.tables.Tables.{Tables}
 use Rattle.kernel_terms.specs.TableEntries.{is_local, numbers_where}
+use Rattle.kernel_terms.specs.Divisors.{divisors_are_allowed}
 use Rattle.kernel_terms.specs.Statements.{statement}
 use Rattle.kernel_terms.specs.WellFormed.{has_names, is_within_limits, has_entries, is_signal_entry, is_channel_entry, is_variable_entry, interface_comes_first, combines, is_default, has_parts, fits_statement, fit_statements, declared_by, declared_by_all, declares_each_once, are_apart, stands_in, is_well_formed}
 use Rattle.sj_names.specs.definitions.FittingTrees.{at_start, term_scope, fits_block, fit_domains}
 use Rattle.sj_names.specs.definitions.SoundTables.{has_domain}
 use Rattle.java_types.specs.definitions.FittingKinds.{kind_rules}
-use Rattle.java_types.specs.definitions.TypedTrees.{TypedBlock}
+use Rattle.java_types.specs.definitions.TypedTrees.{TypedTree, TypedBlock}
 use Rattle.sj_accept.specs.BuiltTerms.{IsBuilt, AreBuilt}
 use Rattle.sj_accept.specs.Lowered.{AreTerms, AreTermsOf, IsSound}
-use Rattle.sj_accept.specs.definitions.Kinds.{TypedTree}
 use Rattle.sj_accept.specs.definitions.BuiltTables.{is_output, is_pure_output, is_int_channel, tables_are_built}
 
 both : (a b : Bool) → (a && b) ≡ true → (a ≡ true) × (b ≡ true)
@@ -86,7 +86,15 @@ domains_fit t d [] (x ∷ ts) a h = absurd a
 domains_fit t d (b ∷ bs) [] a h = absurd a
 domains_fit t d (b ∷ bs) (x ∷ ts) a h =
     let f = both (fits_block t (kind_rules t) b (at_start d)).fits (fit_domains t (kind_rules t) (suc d) bs) h in
-    and_true (fits_statement t (term_scope (at_start d)) (statement x)) (fit_statements t (suc d) (map statement ts)) (a.0.fits t (at_start d) f.0) (domains_fit t (suc d) bs ts a.1 f.1)
+    and_true (fits_statement t (term_scope (at_start d)) (statement x)) (fit_statements t (suc d) (map statement ts)) (a.0.fits t (at_start d) f.0).keeps (domains_fit t (suc d) bs ts a.1 f.1)
+
+pub domains_divided : (t : Tables) (d : ℕ) (bs : List TypedBlock) (ts : List Term) → AreTerms bs ts → fit_domains t (kind_rules t) d bs ≡ true → list_all divisors_are_allowed (map statement ts) ≡ true
+domains_divided t d [] [] a h = refl
+domains_divided t d [] (x ∷ ts) a h = absurd a
+domains_divided t d (b ∷ bs) [] a h = absurd a
+domains_divided t d (b ∷ bs) (x ∷ ts) a h =
+    let f = both (fits_block t (kind_rules t) b (at_start d)).fits (fit_domains t (kind_rules t) (suc d) bs) h in
+    and_true (divisors_are_allowed (statement x)) (list_all divisors_are_allowed (map statement ts)) (a.0.fits t (at_start d) f.0).divisors (domains_divided t (suc d) bs ts a.1 f.1)
 
 once : (t : Tables) (ts : List Term) → list_all is_pure_output t.signals ≡ true → AreBuilt ts → declares_each_once t (map statement ts) ≡ true
 once t ts p b =

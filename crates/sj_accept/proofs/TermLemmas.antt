@@ -20,6 +20,7 @@ use Rattle.kernel_terms.specs.declared.term.Form as form
 use Rattle.kernel_terms.specs.declared.tables.Tables.{Tables}
 use Rattle.kernel_terms.specs.WellFormed.{has_parts, has_some, form_has_parts, term_has_parts, declared_by, fits_statement}
 use Rattle.kernel_terms.specs.Statements.{Stmt, Nothing, Pause, Emit, Seq, Send, Receive, statement, statement_of_form, form_statement, term_statement, sequence_from}
+use Rattle.kernel_terms.specs.Divisors.{divisors_are_allowed}
 use Rattle.kernel_terms.specs.Built.{is_built, is_built_form, form_built, term_built, all_built, is_int_literal}
 use Rattle.kernel_terms.proofs.Layers.{statement-Seq, statement-Loop}
 use Rattle.sj_names.specs.definitions.FittingTrees.{Around, term_scope}
@@ -178,13 +179,19 @@ built_block at (t ∷ u ∷ us) b = built-Seq (term_at at (form.Seq (t ∷ u ∷
 -- where each of the terms keeps the rules, so does their block
 
 fit_from : (t : Tables) (a : Around) (p : Term) (ps : List Term) → Fits t a p → AllFit t a ps → fits_statement t (term_scope a) (sequence_from (statement p) (map statement ps)) ≡ true
-fit_from t a p [] g h = g
-fit_from t a p (q ∷ qs) g h = and_true (fits_statement t (term_scope a) (statement p)) (fits_statement t (term_scope a) (sequence_from (statement q) (map statement qs))) g (fit_from t a q qs h.0 h.1)
+fit_from t a p [] g h = g.keeps
+fit_from t a p (q ∷ qs) g h = and_true (fits_statement t (term_scope a) (statement p)) (fits_statement t (term_scope a) (sequence_from (statement q) (map statement qs))) g.keeps (fit_from t a q qs h.0 h.1)
+
+divided_from : (t : Tables) (a : Around) (p : Term) (ps : List Term) → Fits t a p → AllFit t a ps → divisors_are_allowed (sequence_from (statement p) (map statement ps)) ≡ true
+divided_from t a p [] g h = g.divisors
+divided_from t a p (q ∷ qs) g h = and_true (divisors_are_allowed (statement p)) (divisors_are_allowed (sequence_from (statement q) (map statement qs))) g.divisors (divided_from t a q qs h.0 h.1)
 
 pub fit_block : (t : Tables) (a : Around) (at : ℕ) (ts : List Term) → AllFit t a ts → Fits t a (block_of at ts)
-fit_block t a at [] h = ap (fits_statement t (term_scope a)) (statement-Nothing (term_at at form.Nothing) refl)
+fit_block t a at [] h = let e = statement-Nothing (term_at at form.Nothing) refl in record { keeps = ap (fits_statement t (term_scope a)) e; divisors = ap divisors_are_allowed e }
 fit_block t a at (p ∷ []) h = h.0
-fit_block t a at (p ∷ q ∷ ps) h = ap (fits_statement t (term_scope a)) (statement-Seq (term_at at (form.Seq (p ∷ q ∷ ps))) (p ∷ q ∷ ps) refl) ∙ fit_from t a p (q ∷ ps) h.0 h.1
+fit_block t a at (p ∷ q ∷ ps) h =
+    let e = statement-Seq (term_at at (form.Seq (p ∷ q ∷ ps))) (p ∷ q ∷ ps) refl in
+    record { keeps = ap (fits_statement t (term_scope a)) e ∙ fit_from t a p (q ∷ ps) h.0 h.1; divisors = ap divisors_are_allowed e ∙ divided_from t a p (q ∷ ps) h.0 h.1 }
 
 pub block_long : (at : ℕ) (ts parts : List Term) → 2 ≤ length ts → parts ≡ ts → term_at at (form.Seq parts) ≡ block_of at ts
 block_long at [] parts l e = absurd (omega arith)

@@ -40,12 +40,12 @@ use Rattle.java_types.specs.definitions.Checks.{Checked, fine, wrong, after, the
 use Rattle.java_types.specs.definitions.Spellings.{is_given_to}
 use Rattle.java_types.specs.definitions.Operands.{expr_of, kind_of, literal, checked_layer, checked_expression}
 use Rattle.java_types.specs.definitions.Conversions.{given, converted}
-use Rattle.java_types.specs.definitions.TypedTrees.{TypedForm, TypedStmt, TypedBlock, emission, value_for, form_layer, block_layer, stmt_layer, checked_form, checked_block, checked_stmt, port_failures, with_domains}
+use Rattle.java_types.specs.definitions.TypedTrees.{TypedTree, TypedForm, TypedStmt, TypedBlock, emission, value_for, form_layer, block_layer, stmt_layer, checked_form, checked_block, checked_stmt, port_failures, with_domains}
 use Rattle.java_types.specs.definitions.TypedTrees as kinds
 use Rattle.java_types.specs.declared.failure.TypeFailure.TheVariants as failure
-use Rattle.sj_accept.specs.definitions.Sources.{SourceTree}
+use Rattle.sj_grammar.specs.definitions.SourceTrees.{SourceTree}
 use Rattle.sj_ast.specs.declared.port.Port as port
-use Rattle.sj_accept.specs.definitions.Kinds.{TypedTree, checked_source, kind_failures, typed_tree}
+use Rattle.sj_accept.specs.definitions.Kinds.{checked_source, kind_failures, typed_tree}
 use Rattle.sj_accept.specs.definitions.Optional.{all_some, with_first}
 use Rattle.sj_accept.specs.definitions.BuiltTables.{tables_are_built}
 use Rattle.sj_accept.specs.definitions.Lowering.{term_at, block_of, int_of, int_expression, send_of, loop_of, form_term, stmt_term, block_term}

@@ -20,7 +20,8 @@ use Rattle.sj_names.specs.declared.failure.FailureKind.TheVariants.{Unknown, Twi
 use Rattle.sj_names.specs.definitions.Mentions.{names_of_tree}
 use Rattle.sj_names.specs.definitions.DeclaredTables.{tables_of_tree}
 use Rattle.sj_names.specs.definitions.Failures.{failure_at, failures_of, IsLeast}
-use Rattle.sj_accept.specs.definitions.Sources.{SourceTree, IsParsed}
+use Rattle.sj_grammar.specs.definitions.SourceTrees.{SourceTree}
+use Rattle.sj_accept.specs.definitions.Sources.{IsParsed}
 use Rattle.sj_accept.specs.definitions.Kinds.{kind_failures}
 use Rattle.sj_accept.specs.definitions.Lowering.{term_at, block_of}
 use Rattle.sj_accept.specs.definitions.Programs as programs

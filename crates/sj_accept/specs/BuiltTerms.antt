@@ -3,6 +3,7 @@ use Rattle.std.specs.Prelude.{◌≡◌, ℕ, Bool, true, List, [], ◌∷◌}
 use Rattle.kernel_terms.specs.declared.term.Term.{Term}
 use Rattle.kernel_terms.specs.declared.tables.Tables.{Tables}
 use Rattle.kernel_terms.specs.Built.{is_built}
+use Rattle.kernel_terms.specs.Divisors.{divisors_are_allowed}
 use Rattle.kernel_terms.specs.Statements.{statement}
 use Rattle.kernel_terms.specs.WellFormed.{has_parts, declared_by, fits_statement}
 use Rattle.sj_names.specs.definitions.FittingTrees.{Around, term_scope, fits_stmt, fits_block}
@@ -19,9 +20,10 @@ abbrev pub AreBuilt : List Term → Type 0
 AreBuilt [] = Unit {0}
 AreBuilt (t ∷ ts) = IsBuilt t × AreBuilt ts
 
--- the term keeps the rules on uses and kinds there
-abbrev pub Fits : Tables → Around → Term → Type 0
-Fits t a term = fits_statement t (term_scope a) (statement term) ≡ true
+-- the term keeps the rules on uses and kinds there, and its divisors are allowed
+pub record Fits (t : Tables) (a : Around) (term : Term) : Type 0 where
+  pub keeps : fits_statement t (term_scope a) (statement term) ≡ true
+  pub divisors : divisors_are_allowed (statement term) ≡ true
 
 abbrev pub AllFit : Tables → Around → List Term → Type 0
 AllFit t a [] = Unit {0}

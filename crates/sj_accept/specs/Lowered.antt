@@ -5,19 +5,19 @@ use Rattle.java_values.specs.Names.{is_name}
 use Rattle.kernel_terms.specs.declared.term.Term.{Term}
 use Rattle.kernel_terms.specs.declared.tables.Tables.{Tables}
 use Rattle.kernel_terms.specs.declared.system.System.{System}
+use Rattle.kernel_terms.specs.Divisors.{divisors_are_allowed}
 use Rattle.kernel_terms.specs.Systems.{tables_of, domains_of}
 use Rattle.kernel_terms.specs.WellFormed.{has_names, is_within_limits, interface_comes_first, is_channel_entry, is_variable_entry}
 use Rattle.sj_names.specs.definitions.FittingTrees.{Around, fits_tree, stmts_fit, fits_stmt}
 use Rattle.sj_names.specs.definitions.SoundTables.{port_name, has_domain}
 use Rattle.java_types.specs.definitions.FittingKinds.{kind_rules}
-use Rattle.java_types.specs.definitions.TypedTrees.{TypedStmt, TypedBlock}
+use Rattle.java_types.specs.definitions.TypedTrees.{TypedTree, TypedStmt, TypedBlock}
 use Rattle.sj_accept.specs.BuiltTerms.{IsBuilt, AreBuilt, AllFit, IsTermOfBlock}
 use Rattle.sj_accept.specs.definitions.Optional.{all_some}
-use Rattle.sj_accept.specs.definitions.Sources.{SourceTree}
-use Rattle.sj_accept.specs.definitions.Kinds.{TypedTree}
+use Rattle.sj_grammar.specs.definitions.SourceTrees.{SourceTree}
 use Rattle.sj_accept.specs.definitions.BuiltTables.{tables_are_built}
 use Rattle.sj_accept.specs.definitions.Lowering.{stmt_term, block_term}
-use Rattle.sj_accept.specs.definitions.Programs.{LoweredProgram, lowered}
+use Rattle.sj_accept.specs.definitions.Programs.{LoweredProgram, lowered, domain_statements}
 
 abbrev pub with_all : {X : Type 0} → List X → Option (List X) → Option (List X)
 with_all xs None = None
@@ -76,3 +76,4 @@ pub record IsSystemOf (t : Tables) (tree : TypedTree) (system : System) : Type 0
   pub domains : domains_of system ≡ program.terms
   pub entries : tables_are_built program.tables ≡ true
   pub built : AreBuilt program.terms
+  pub divisors : list_all divisors_are_allowed (domain_statements program) ≡ true

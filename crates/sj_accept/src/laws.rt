@@ -3,7 +3,8 @@
 ghost use Rattle.std.specs.Prelude.{◌≡◌, ℕ, List};
 ghost use Rattle.sj_accept.specs.Lowered.{IsWhole};
 ghost use Rattle.sj_accept.specs.declared.refusal.Refusal.{Refusal};
-ghost use Rattle.sj_accept.specs.definitions.Sources.{SourceTree, IsParsed};
+ghost use Rattle.sj_grammar.specs.definitions.SourceTrees.{SourceTree};
+ghost use Rattle.sj_accept.specs.definitions.Sources.{IsParsed};
 ghost use Rattle.sj_accept.specs.definitions.Programs.{LoweredProgram};
 ghost use Rattle.sj_accept.specs.definitions.Accepted.{IsSourceOf, IsAccepted};
 ghost use Rattle.sj_accept.specs.definitions.Refusals.{IsRefusedFor};

@@ -8,7 +8,8 @@ ghost use Rattle.sj_names.specs.declared.binding.Bound.{Bound as BoundTree};
 ghost use Rattle.sj_names.specs.definitions.Bindings.{IsBinding, IsWhyUnbound};
 ghost use Rattle.java_types.specs.definitions.Typings.{IsTyping, IsWhyUntyped};
 ghost use Rattle.sj_accept.specs.Lowered.{IsWhole, IsSound};
-ghost use Rattle.sj_accept.specs.definitions.Sources.{SourceTree, IsParsed};
+ghost use Rattle.sj_grammar.specs.definitions.SourceTrees.{SourceTree};
+ghost use Rattle.sj_accept.specs.definitions.Sources.{IsParsed};
 ghost use Rattle.sj_accept.specs.definitions.Systems.{Accepts};
 ghost use Rattle.sj_accept.specs.definitions.Refusals.{IsWhyNot};
 

@@ -38,11 +38,13 @@ fn repeated(
 
 #[test]
 fn accepts_built_forms(rt: HostRuntime) -> Result<(), Fail> {
-    let sources: [&[u8]; 6] = [
+    let sources: [&[u8]; 8] = [
         b"system{interface{}{}}",
         b"system{interface{output signal A;}{emit A;pause;;emit A;}}",
         b"system{interface{output signal A;}{while(true){emit A;pause;}}}",
         b"system{interface{int channel C;}{send C(5);}><{receive C;}}",
+        b"system{interface{int channel C;}{send C((1));}><{receive C;}}",
+        b"system{interface{int channel C;}{send C(-2147483648);}><{receive C;}}",
         b"system{interface{int channel C;}{while(true){send C(1);}}><{while(true){receive C;}}}",
         b"/* a */ system { interface { } // b\n { pause; } }",
     ];
@@ -146,7 +148,7 @@ fn looks_at_names(rt: HostRuntime) -> Result<(), Fail> {
 
 #[test]
 fn looks_at_owners(rt: HostRuntime) -> Result<(), Fail> {
-    let cases: [(&[u8], FailureKind, u32); 6] = [
+    let cases: [(&[u8], FailureKind, u32); 7] = [
         (
             b"system{interface{int channel C;}{}}",
             FailureKind::ChannelEnds,
@@ -154,6 +156,11 @@ fn looks_at_owners(rt: HostRuntime) -> Result<(), Fail> {
         ),
         (
             b"system{interface{int channel C;}{}><{receive C;}}",
+            FailureKind::ChannelEnds,
+            29,
+        ),
+        (
+            b"system{interface{int channel C;}{send C(1);}><{int x=#C;}}",
             FailureKind::ChannelEnds,
             29,
         ),
@@ -181,6 +188,28 @@ fn looks_at_owners(rt: HostRuntime) -> Result<(), Fail> {
     for (source, fault, at) in cases {
         assert_eq!(rt; refusal_of(rt.alloc(), source)?, failure(fault, at));
     }
+    Ok(())
+}
+
+// An input of an earlier domain is emitted: of the two failures at one place the first kind is told.
+#[test]
+fn tells_the_first_kind_at_one_place(rt: HostRuntime) -> Result<(), Fail> {
+    let source = b"system{interface{input signal A;}{await(A);}><{emit A;}}";
+    assert_eq!(rt;
+        refusal_of(rt.alloc(), source)?,
+        failure(FailureKind::SignalShared, 52)
+    );
+    Ok(())
+}
+
+// A name declared twice stands before one that isn't declared.
+#[test]
+fn tells_a_declaration_before_an_unknown_name(rt: HostRuntime) -> Result<(), Fail> {
+    let source = b"system{interface{}{signal A;signal A;emit B;}}";
+    assert_eq!(rt;
+        refusal_of(rt.alloc(), source)?,
+        failure(FailureKind::Twice, 35)
+    );
     Ok(())
 }
 
@@ -349,6 +378,35 @@ fn accepts_1024_signals_of_each_domain(rt: HostRuntime) -> Result<(), Fail> {
     assert_eq!(rt;
         refusal_of(rt.alloc(), more.as_bytes())?,
         failure(FailureKind::TooMany, 21449)
+    );
+    Ok(())
+}
+
+// Signals of an interface, so many of which the second domain emits; it declares one more, whose place is told.
+fn with_a_later_domain(alloc: Global, signals: u32) -> Result<(String, u32), Fail> {
+    let mut source = String::from_str(alloc, "system{interface{output signal B;")?;
+    for signal in 0..signals {
+        source.push_str(format!(in alloc; "output signal A{signal};")?.as_str())?;
+    }
+    source.push_str("}{emit B;}><{")?;
+    for signal in 0..signals {
+        source.push_str(format!(in alloc; "emit A{signal};")?.as_str())?;
+    }
+    source.push_str("signal ")?;
+    let place = u32::try_from(source.len()).map_err(|_| AllocError)?;
+    source.push_str("L;}}")?;
+    Ok((source, place))
+}
+
+// The signals of an interface count for the domain that mentions them.
+#[test]
+fn counts_signals_of_a_later_domain(rt: HostRuntime) -> Result<(), Fail> {
+    let (most, _) = with_a_later_domain(rt.alloc(), 1023)?;
+    assert_eq!(rt; refusal_of(rt.alloc(), most.as_bytes())?, Some(Refusal::Later));
+    let (more, place) = with_a_later_domain(rt.alloc(), 1024)?;
+    assert_eq!(rt;
+        refusal_of(rt.alloc(), more.as_bytes())?,
+        failure(FailureKind::TooMany, place)
     );
     Ok(())
 }

@@ -154,10 +154,13 @@ abbrev pub port_failures : port.Port ℕ → List TypeFailure
 port_failures (port_is.Signal p) = combination_failures p.signal.valued
 port_failures (port_is.Channel c) = []
 
-abbrev pub with_domains : List (port.Port ℕ) → List TypedBlock → Tree ℕ expr.Expr
+abbrev pub TypedTree : Type 0
+TypedTree = Tree ℕ expr.Expr
+
+abbrev pub with_domains : List (port.Port ℕ) → List TypedBlock → TypedTree
 with_domains ports blocks = record { ports = ports; domains = blocks }
 
-abbrev pub checked_tree : Tables → Tree ℕ (raw.Raw TableEntry) → Checked (Tree ℕ expr.Expr)
+abbrev pub checked_tree : Tables → Tree ℕ (raw.Raw TableEntry) → Checked TypedTree
 checked_tree t tree =
     after (flat_map port_failures tree.ports)
     (map1 (with_domains tree.ports) (all_checked (map (checked_block t) tree.domains)))

@@ -6,7 +6,8 @@ use Rattle.kernel_terms.specs.MayEnd.{LoopsWait}
 use Rattle.tick_tree.specs.definitions.Weight.{weight_of, most_weight}
 use Rattle.sj_names.specs.definitions.Mentions.{names_of_tree}
 use Rattle.sj_names.specs.definitions.Failures.{failures_of}
-use Rattle.sj_accept.specs.definitions.Sources.{SourceTree, IsParsed}
+use Rattle.sj_grammar.specs.definitions.SourceTrees.{SourceTree}
+use Rattle.sj_accept.specs.definitions.Sources.{IsParsed}
 use Rattle.sj_accept.specs.definitions.Kinds.{kind_failures}
 use Rattle.sj_accept.specs.definitions.Programs.{LoweredProgram, program_of, domain_statements}
 

@@ -1,16 +1,11 @@
 -- The kinds of a tree whose names have no failure.
-use Rattle.std.specs.Prelude.{ℕ, List, Option}
-use Rattle.kernel_terms.specs.declared.expr.Expr.{Expr}
-use Rattle.sj_ast.specs.declared.statement.Tree.{Tree}
+use Rattle.std.specs.Prelude.{List, Option}
 use Rattle.sj_names.specs.definitions.NumberedTrees.{numbered_tree}
 use Rattle.sj_names.specs.definitions.DeclaredTables.{tables_of_tree}
 use Rattle.java_types.specs.declared.failure.TypeFailure.{TypeFailure}
 use Rattle.java_types.specs.definitions.Checks.{Checked}
-use Rattle.java_types.specs.definitions.TypedTrees.{checked_tree}
-use Rattle.sj_accept.specs.definitions.Sources.{SourceTree}
-
-abbrev pub TypedTree : Type 0
-TypedTree = Tree ℕ Expr
+use Rattle.java_types.specs.definitions.TypedTrees.{TypedTree, checked_tree}
+use Rattle.sj_grammar.specs.definitions.SourceTrees.{SourceTree}
 
 -- the tree with numbers, with its kinds
 abbrev pub checked_source : SourceTree → Checked TypedTree

@@ -4,9 +4,10 @@ use Rattle.kernel_terms.specs.declared.term.Term.{Term}
 use Rattle.kernel_terms.specs.declared.tables.Tables.{Tables}
 use Rattle.kernel_terms.specs.Statements.{Stmt, statement}
 use Rattle.sj_names.specs.definitions.DeclaredTables.{tables_of_tree}
+use Rattle.java_types.specs.definitions.TypedTrees.{TypedTree}
 use Rattle.sj_accept.specs.definitions.Optional.{all_some}
-use Rattle.sj_accept.specs.definitions.Sources.{SourceTree}
-use Rattle.sj_accept.specs.definitions.Kinds.{TypedTree, typed_tree}
+use Rattle.sj_grammar.specs.definitions.SourceTrees.{SourceTree}
+use Rattle.sj_accept.specs.definitions.Kinds.{typed_tree}
 use Rattle.sj_accept.specs.definitions.BuiltTables.{tables_are_built}
 use Rattle.sj_accept.specs.definitions.Lowering.{block_term}
 

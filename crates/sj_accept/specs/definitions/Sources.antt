@@ -2,13 +2,8 @@
 use Rattle.std.specs.Prelude.{ℕ, List}
 use Rattle.sj_lexer.specs.declared.token.Token.{Token}
 use Rattle.sj_lexer.specs.definitions.Readings.{AreTokens}
-use Rattle.sj_ast.specs.declared.name.Name.{Name}
-use Rattle.sj_ast.specs.declared.expression.Raw.{Raw}
-use Rattle.sj_ast.specs.declared.statement.Tree.{Tree}
+use Rattle.sj_grammar.specs.definitions.SourceTrees.{SourceTree}
 use Rattle.stmt_parser.specs.definitions.Parsing.{IsTreeOf}
-
-abbrev pub SourceTree : Type 0
-SourceTree = Tree Name (Raw Name)
 
 -- the source's tokens are a program of the grammar, within the limits, and this is its tree
 pub record IsParsed (source : List ℕ) (tree : SourceTree) : Type 0 where

@@ -10,5 +10,5 @@ new-requires c =
 
 pub returns-in-Ok-Some : goal.returns-in-Ok-Some
 returns-in-Ok-Some c =
-    is_system c.args.typed.tables c.args.typed.tree c.in-Ok-Some.terms.items c.new.result (sym c.tables_are_built.ensures ∙ c.if-not-tables_are_built.false) (rw c.in-Ok-Some.field-0-is at (rw c.as_slice.ensures at c.in-Ok-Some.ensures)) c.new.ensures.tables
+    is_system c.args.typed.tables c.args.typed.tree c.in-Ok-Some.terms.items c.new.result c.args.typed.fitting (sym c.tables_are_built.ensures ∙ c.if-not-tables_are_built.false) (rw c.in-Ok-Some.field-0-is at (rw c.as_slice.ensures at c.in-Ok-Some.ensures)) c.new.ensures.tables
     (c.new.ensures.domains ∙ c.from_vec.ensures)
