@@ -34,6 +34,7 @@ use Rattle.java_types.specs.definitions.Checks.{Checked, map1, all_checked, wher
 use Rattle.java_types.specs.definitions.Combinations.{combination_fits, combinations_fit}
 use Rattle.java_types.specs.definitions.TypedTrees.{TypedForm, TypedBlock, TypedStmt, boolean_failures, written_failures, combination_failures, condition_of, form_layer, block_layer, stmt_layer, checked_form, checked_block, checked_stmt, port_failures, with_domains, checked_tree}
 use Rattle.java_types.proofs.CheckParts.{first_nil, second_nil}
+use Rattle.java_types.proofs.FormLayers.{map_twice, layers_twice}
 use Rattle.java_types.proofs.TypedExpressions.{both_true}
 
 -- single signals
@@ -81,10 +82,6 @@ SourceBlock = block.Block Name (Raw Name)
 
 abbrev SourceStmt : Type 0
 SourceStmt = stmt.Stmt Name (Raw Name)
-
-map_twice : {X Y Z : Type 0} (f : X → Y) (g : Y → Z) (xs : List X) → map g (map f xs) ≡ map (λ x. g (f x)) xs
-map_twice f g [] = refl
-map_twice f g (x ∷ xs) = ap (λ l. g (f x) ∷ l) (map_twice f g xs)
 
 module _ (t : Tables) (d : ℕ) where
   abbrev OfForm : SourceForm → Type 0
@@ -225,39 +222,10 @@ module _ (t : Tables) (d : ℕ) where
 
   -- all layers
 
-  same_parts : {P B S : Type 0} (f : SourceForm → P) (g : SourceBlock → B) (h : SourceStmt → S) (y : Form-F Name (Raw Name) ProvedForm ProvedBlock ProvedStmt)
-      → form.map-Form Name (Raw Name) SourceForm SourceBlock SourceStmt P B S f g h (plain_of y) ≡ form.map-Form Name (Raw Name) ProvedForm ProvedBlock ProvedStmt P B S (λ x. f x.0) (λ x. g x.0) (λ x. h x.0) y
-  same_parts f g h (Form-F.Par first others) = ap (Form-F.Par (g first.0)) (map_twice (λ (b : ProvedBlock). b.0) g others)
-  same_parts f g h Form-F.Empty = refl
-  same_parts f g h Form-F.Pause = refl
-  same_parts f g h Form-F.Halt = refl
-  same_parts f g h (Form-F.Emit at n None) = refl
-  same_parts f g h (Form-F.Emit at n (Some e)) = refl
-  same_parts f g h (Form-F.Sustain at n None) = refl
-  same_parts f g h (Form-F.Sustain at n (Some e)) = refl
-  same_parts f g h (Form-F.Declare signal) = refl
-  same_parts f g h (Form-F.Variable k at n value) = refl
-  same_parts f g h (Form-F.Assign at n value) = refl
-  same_parts f g h (Form-F.Update at n sign_at op value) = refl
-  same_parts f g h (Form-F.If cond first None) = refl
-  same_parts f g h (Form-F.If cond first (Some other)) = refl
-  same_parts f g h (Form-F.Present test first None) = refl
-  same_parts f g h (Form-F.Present test first (Some other)) = refl
-  same_parts f g h (Form-F.While body) = refl
-  same_parts f g h (Form-F.Abort weak immediate test body) = refl
-  same_parts f g h (Form-F.Suspend immediate test body) = refl
-  same_parts f g h (Form-F.Trap at n body) = refl
-  same_parts f g h (Form-F.Exit at n) = refl
-  same_parts f g h (Form-F.Send at n value) = refl
-  same_parts f g h (Form-F.Receive at n) = refl
-  same_parts f g h (Form-F.Await immediate test) = refl
-  same_parts f g h (Form-F.Every immediate test body) = refl
-  same_parts f g h (Form-F.Loop body test) = refl
-
   form_of : (y : Form-F Name (Raw Name) ProvedForm ProvedBlock ProvedStmt) → OfForm (form.roll-Form Name (Raw Name) (plain_of y))
   form_of y s h =
-      let number = fold-roll-Form Name (Raw Name) FormPart BlockPart StmtPart numbered_form_layer numbered_block_layer numbered_stmt_layer (plain_of y) ∙ ap numbered_form_layer (same_parts numbered_form numbered_block numbered_stmt y) in
-      let entered = fold-roll-Form Name (Raw Name) Declared Declared Declared (declared_form_layer d) declared_block_layer declared_stmt_layer (plain_of y) ∙ ap (declared_form_layer d) (same_parts (declared_form d) (declared_block d) (declared_stmt d) y) in
+      let number = fold-roll-Form Name (Raw Name) FormPart BlockPart StmtPart numbered_form_layer numbered_block_layer numbered_stmt_layer (plain_of y) ∙ ap numbered_form_layer (layers_twice (λ (f : ProvedForm). f.0) (λ (b : ProvedBlock). b.0) (λ (c : ProvedStmt). c.0) numbered_form numbered_block numbered_stmt y) in
+      let entered = fold-roll-Form Name (Raw Name) Declared Declared Declared (declared_form_layer d) declared_block_layer declared_stmt_layer (plain_of y) ∙ ap (declared_form_layer d) (layers_twice (λ (f : ProvedForm). f.0) (λ (b : ProvedBlock). b.0) (λ (c : ProvedStmt). c.0) (declared_form d) (declared_block d) (declared_stmt d) y) in
       ap (λ (x : Declared). list_all combination_fits x.signals) entered ∙ form_step y s (ap (λ (p : FormPart). (checked_form t (p s).value).failures) (sym number) ∙ h)
 
   abbrev plain_block : Block-F Name (Raw Name) ProvedForm ProvedBlock ProvedStmt → Block-F Name (Raw Name) SourceForm SourceBlock SourceStmt

@@ -1,4 +1,6 @@
+pub mod FormLayers
 pub mod FittingForms
+pub mod TypedTraps
 pub mod FittingCombinations
 pub mod CheckParts
 pub mod TypedExpressions

@@ -1,5 +1,8 @@
-ghost use Rattle.std.specs.Prelude.{◌≡◌, true};
+ghost use Rattle.std.specs.Prelude.{◌≡◌, ◌≤◌, true, length};
+ghost use Rattle.kernel_terms.specs.Limits.{most_traps};
 ghost use Rattle.sj_names.specs.definitions.FittingTrees.{fits_tree};
+ghost use Rattle.sj_names.specs.definitions.NestedTraps.{traps_nest};
+ghost use Rattle.sj_names.specs.definitions.SoundTables.{AreSoundTables};
 ghost use Rattle.java_types.specs.definitions.Checks.{fine};
 ghost use Rattle.java_types.specs.definitions.TypedTrees.{checked_tree};
 ghost use Rattle.sj_names.specs.definitions.Bindings.{IsBinding};
@@ -12,11 +15,15 @@ use kernel_terms::{Expr, Tables};
 use sj_ast::{Name, Raw, Tree};
 use sj_names::Bound;
 
-// What is asked of the values of a tree with kinds holds of those of a bound tree with its kinds.
-pub fn kept_kinds(bound: &Bound, tree: &Tree<u32, Expr>, tables: &Tables)
+// The expressions of a bound tree with its kinds keep the rules on kinds. Its tables, domains and traps keep what those of
+// the bound tree do.
+pub fn kept_facts(bound: &Bound, tree: &Tree<u32, Expr>, tables: &Tables)
     requires tree { checked_tree bound.now.tables bound.now.tree ≡ fine tree.now }
     requires tables { tables.now ≡ bound.now.tables }
-    ensures { fits_tree tables.now (kind_rules tables.now) tree.now ≡ true }
+    ensures fitting { fits_tree tables.now (kind_rules tables.now) tree.now ≡ true }
+    ensures sound { AreSoundTables tables.now (length tree.now.domains) }
+    ensures some { 1 ≤ length tree.now.domains }
+    ensures traps { traps_nest most_traps tree.now ≡ true }
 {}
 
 /// Expressions of a tree with kinds have their kinds by operators and operands, those of what they are given to, and

@@ -22,6 +22,3 @@ pub use laws::{fitting_combinations, fitting_kinds};
 pub use rows::{small_conversions, small_operators, small_signals};
 pub use trees::Typed;
 pub use typing::typed;
-
-#[cfg(test)]
-mod tests;

@@ -4,7 +4,7 @@ ghost use Rattle.java_types.specs.definitions.TypedTrees.{checked_tree};
 ghost use Rattle.java_types.specs.definitions.Typings.{IsTyping, IsWhyUntyped};
 
 use crate::failure::TypeError;
-use crate::laws::kept_kinds;
+use crate::laws::kept_facts;
 use crate::ports::{copied_ports, first_port_failure};
 use crate::statements::blocks;
 use crate::table_copies::copied_tables;
@@ -38,6 +38,6 @@ pub fn typed(alloc: Global, bound: &Bound) -> Result<Typed, TypeError>
 {
     let tree = typed_tree(alloc, &bound.tables, &bound.tree)?;
     let tables = copied_tables(alloc, &bound.tables)?;
-    kept_kinds(bound, &tree, &tables);
+    kept_facts(bound, &tree, &tables);
     Ok(Typed { tree, tables })
 }

@@ -7,6 +7,8 @@ pub mod SystemLemmas
 pub mod ProgramLemmas
 pub mod LoopLemmas
 pub mod StaticRuleLemmas
+pub mod SourceLevels
+pub mod SourceTraps
 pub mod SourceLemmas
 pub mod FailureLemmas
 pub mod KindLemmas

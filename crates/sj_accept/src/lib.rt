@@ -22,4 +22,6 @@ pub use rows::{deep_sources, misnamed_sources, small_refusals, small_sources, un
 pub use source::{MOST_SOURCE_BYTES, accept};
 
 #[cfg(test)]
+mod kind_tests;
+#[cfg(test)]
 mod tests;
