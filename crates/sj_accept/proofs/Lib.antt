@@ -12,7 +12,6 @@ pub mod SourceTraps
 pub mod SourceLemmas
 pub mod FailureLemmas
 pub mod KindLemmas
-pub mod SoundTreeLemmas
 pub mod TypedSources
 pub mod RefusalLemmas
 pub mod NamedTrees

@@ -18,6 +18,7 @@ use Rattle.sj_accept.specs.definitions.Sources.{IsParsed}
 use Rattle.sj_accept.specs.definitions.Programs.{LoweredProgram, program_of}
 use Rattle.sj_accept.specs.definitions.Accepted.{IsSourceOf}
 use Rattle.sj_accept.specs.Lowered.{IsWhole}
+use Rattle.sj_accept.proofs.SourceTraps.{source_nests}
 
 pub parsed_once : (tokens_once : (source : List ℕ) (ts us : List Token) → AreTokens source ts → AreTokens source us → ts ≡ us)
     → (sentences_once : (p q : grammar.Program) → IsProgram p → IsProgram q → print_program p [] ≡ print_program q [] → p ≡ q)
@@ -59,7 +60,7 @@ ap_le : {m n : ℕ} → m ≡ suc n → 1 ≤ m
 ap_le e = omega arith
 
 pub tree_whole : (named : (source : List ℕ) (ts : List Token) → AreTokens source ts → HaveNames source ts) → (source : List ℕ) (tree : SourceTree) → IsParsed source tree → IsWhole tree
-tree_whole named source tree p = record { some = ap_le (ap (λ (t : SourceTree). length t.domains) p.parsed.stands); named = ap (λ (t : SourceTree). list_all is_name (map port_name t.ports)) p.parsed.stands ∙ ports_named source p.parsed.sentence.ports after p.parsed.is_program.ports names }
+tree_whole named source tree p = record { some = ap_le (ap (λ (t : SourceTree). length t.domains) p.parsed.stands); named = ap (λ (t : SourceTree). list_all is_name (map port_name t.ports)) p.parsed.stands ∙ ports_named source p.parsed.sentence.ports after p.parsed.is_program.ports names; traps = source_nests source tree p }
   where
     after : List Token
     after = p.parsed.sentence.close_ports ∷ print_block p.parsed.sentence.first (print_others p.parsed.sentence.others (p.parsed.sentence.close_system ∷ []))

@@ -14,12 +14,12 @@ use Rattle.kernel_terms.specs.TableEntries.{is_local, numbers_where}
 use Rattle.kernel_terms.specs.Divisors.{divisors_are_allowed}
 use Rattle.kernel_terms.specs.Statements.{statement}
 use Rattle.kernel_terms.specs.WellFormed.{has_names, is_within_limits, has_entries, is_signal_entry, is_channel_entry, is_variable_entry, interface_comes_first, combines, is_default, has_parts, fits_statement, fit_statements, declared_by, declared_by_all, declares_each_once, are_apart, stands_in, is_well_formed}
-use Rattle.sj_names.specs.definitions.FittingTrees.{at_start, term_scope, fits_block, fit_domains}
-use Rattle.sj_names.specs.definitions.SoundTables.{has_domain}
+use Rattle.sj_names.specs.definitions.FittingTrees.{at_start, term_scope, fits_block, fit_domains, fits_tree}
+use Rattle.sj_names.specs.definitions.SoundTables.{has_domain, AreSoundTables}
 use Rattle.java_types.specs.definitions.FittingKinds.{kind_rules}
 use Rattle.java_types.specs.definitions.TypedTrees.{TypedTree, TypedBlock}
 use Rattle.sj_accept.specs.BuiltTerms.{IsBuilt, AreBuilt}
-use Rattle.sj_accept.specs.Lowered.{AreTerms, AreTermsOf, IsSound}
+use Rattle.sj_accept.specs.Lowered.{AreTerms, AreTermsOf}
 use Rattle.sj_accept.specs.definitions.BuiltTables.{is_output, is_pure_output, is_int_channel, tables_are_built}
 
 both : (a b : Bool) → (a && b) ≡ true → (a ≡ true) × (b ≡ true)
@@ -101,8 +101,8 @@ once t ts p b =
     ap (λ l. are_apart l && list_all (λ s. stands_in s l) (numbers_where (λ (s : SignalInfo). is_local s.sort) 0 t.signals)) (declare_none ts b)
     ∙ ap (list_all (λ s. stands_in s [])) (no_locals 0 t.signals p)
 
-pub well_formed : (t : Tables) (tree : TypedTree) (ts : List Term) → IsSound t tree → tables_are_built t ≡ true → AreTermsOf tree.domains ts → is_well_formed t ts ≡ true
-well_formed t tree ts s b a =
+pub well_formed : (t : Tables) (tree : TypedTree) (ts : List Term) → AreSoundTables t (length tree.domains) → fits_tree t (kind_rules t) tree ≡ true → tables_are_built t ≡ true → AreTermsOf tree.domains ts → is_well_formed t ts ≡ true
+well_formed t tree ts s f b a =
     let n = sym (terms_count tree.domains ts a.terms_of) in
     let p = both (list_all is_pure_output t.signals) (list_all is_int_channel t.channels) b in
     let built = all_built_terms tree.domains ts a.terms_of in
@@ -114,4 +114,4 @@ well_formed t tree ts s b a =
     (and_true (interface_comes_first t.signals) _ s.order
     (and_true (list_all (is_channel_entry (length tree.domains)) t.channels) (list_all (is_variable_entry (length tree.domains)) t.variables) s.channels s.variables))))
     (and_true (list_all has_parts ts) _ (all_parts ts built)
-    (and_true (fit_statements t 0 (map statement ts)) _ (domains_fit t 0 tree.domains ts a.terms_of s.fits) (once t ts p.0 built)))))
+    (and_true (fit_statements t 0 (map statement ts)) _ (domains_fit t 0 tree.domains ts a.terms_of f) (once t ts p.0 built)))))

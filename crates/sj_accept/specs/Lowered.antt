@@ -7,9 +7,10 @@ use Rattle.kernel_terms.specs.declared.tables.Tables.{Tables}
 use Rattle.kernel_terms.specs.declared.system.System.{System}
 use Rattle.kernel_terms.specs.Divisors.{divisors_are_allowed}
 use Rattle.kernel_terms.specs.Systems.{tables_of, domains_of}
-use Rattle.kernel_terms.specs.WellFormed.{has_names, is_within_limits, interface_comes_first, is_channel_entry, is_variable_entry}
-use Rattle.sj_names.specs.definitions.FittingTrees.{Around, fits_tree, stmts_fit, fits_stmt}
-use Rattle.sj_names.specs.definitions.SoundTables.{port_name, has_domain}
+use Rattle.kernel_terms.specs.Limits.{most_traps}
+use Rattle.sj_names.specs.definitions.FittingTrees.{Around, stmts_fit, fits_stmt}
+use Rattle.sj_names.specs.definitions.NestedTraps.{traps_nest}
+use Rattle.sj_names.specs.definitions.SoundTables.{port_name}
 use Rattle.java_types.specs.definitions.FittingKinds.{kind_rules}
 use Rattle.java_types.specs.definitions.TypedTrees.{TypedTree, TypedStmt, TypedBlock}
 use Rattle.sj_accept.specs.BuiltTerms.{IsBuilt, AreBuilt, AllFit, IsTermOfBlock}
@@ -53,20 +54,11 @@ pub record AreTermsOf (all : List TypedBlock) (terms : List Term) : Type 0 where
   pub is : all_some (map block_term all) ≡ Some terms
   pub terms_of : AreTerms all terms
 
--- there is a domain, and the names of the ports are names of the grammar
+-- there is a domain, the names of the ports are names of the grammar, and traps nest within the limit
 pub record IsWhole (tree : SourceTree) : Type 0 where
   pub some : 1 ≤ length tree.domains
   pub named : list_all is_name (map port_name tree.ports) ≡ true
-
--- the tables keep what is promised of names, and the tree what is promised of names and kinds
-pub record IsSound (t : Tables) (tree : TypedTree) : Type 0 where
-  pub names : has_names t ≡ true
-  pub limits : is_within_limits t (length tree.domains) ≡ true
-  pub signals : list_all (has_domain (length tree.domains)) t.signals ≡ true
-  pub order : interface_comes_first t.signals ≡ true
-  pub channels : list_all (is_channel_entry (length tree.domains)) t.channels ≡ true
-  pub variables : list_all (is_variable_entry (length tree.domains)) t.variables ≡ true
-  pub fits : fits_tree t (kind_rules t) tree ≡ true
+  pub traps : traps_nest most_traps tree ≡ true
 
 -- the system is that of the tree's program
 pub record IsSystemOf (t : Tables) (tree : TypedTree) (system : System) : Type 0 where

@@ -1,12 +1,15 @@
-use crate::{TypeError, TypeFailure, Typed, typed};
+// The kinds of sources.
+
+use crate::MOST_SOURCE_BYTES;
+use crate::laws::trees_are_whole;
+use crate::source::{bound_tree, read_tree};
+use java_types::{TypeError, TypeFailure, Typed, typed};
 use java_values::Kind;
 use kernel_terms::{Expr, ExprForm};
 use sj_ast::{Form, Stmt};
-use sj_lexer::lex;
-use sj_names::{Bound, bind};
+use sj_names::Bound;
 use std::alloc::{AllocError, Global};
 use std::test::Fail;
-use stmt_parser::parse;
 
 // A program's front, with a signal and a variable of some kinds: cases follow it as statements.
 const FRONT: &[u8] =
@@ -22,12 +25,14 @@ enum Outcome {
 }
 
 fn bound(alloc: Global, source: &[u8]) -> Option<Bound> {
-    if source.len() > 1_048_576 {
+    if source.len() > MOST_SOURCE_BYTES {
         return None;
     }
-    let tokens = lex(alloc, source).ok()?;
-    let tree = parse(alloc, &tokens, source).ok()?;
-    bind(alloc, &tree).ok()
+    trees_are_whole();
+    match read_tree(alloc, source) {
+        Ok(tree) => bound_tree(alloc, &tree).ok(),
+        Err(_) => None,
+    }
 }
 
 fn outcome_of(alloc: Global, source: &[u8]) -> Result<Outcome, Fail> {

@@ -1,5 +1,5 @@
 ghost use Rattle.std.specs.Prelude.{◌≡◌, IfOk, MatchOption, None};
-ghost use Rattle.sj_accept.specs.Lowered.{IsSound, IsSystemOf};
+ghost use Rattle.sj_accept.specs.Lowered.{IsSystemOf};
 ghost use Rattle.sj_accept.specs.definitions.Programs.{lowered};
 
 use crate::domains::domain_terms;
@@ -12,7 +12,6 @@ use std::alloc::Global;
 
 /// The system of a tree with kinds, where its tables and its forms are built.
 pub fn system_of(alloc: Global, typed: Typed) -> Result<Option<System>, NoMemory>
-    requires { IsSound typed.tables typed.tree }
     ensures { IfOk result (λ o. MatchOption o (lowered typed.tables typed.tree ≡
         None) (IsSystemOf typed.tables typed.tree)) }
 {

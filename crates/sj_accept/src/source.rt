@@ -1,4 +1,4 @@
-ghost use Rattle.std.specs.Prelude.{◌≤◌, ℕ, List, length, MatchResult};
+ghost use Rattle.std.specs.Prelude.{◌≤◌, ℕ, List, length, IfOk, IfErr, MatchResult};
 ghost use Rattle.java_values.specs.SourceLimits.{most_source_bytes};
 ghost use Rattle.sj_lexer.specs.declared.token.Token.{Token};
 ghost use Rattle.sj_lexer.specs.definitions.Readings.{AreTokens};
@@ -6,8 +6,8 @@ ghost use Rattle.sj_lexer.specs.definitions.Refusals.{IsWhy};
 ghost use Rattle.stmt_parser.specs.definitions.Parsing.{IsNoProgram};
 ghost use Rattle.sj_names.specs.declared.binding.Bound.{Bound as BoundTree};
 ghost use Rattle.sj_names.specs.definitions.Bindings.{IsBinding, IsWhyUnbound};
-ghost use Rattle.java_types.specs.definitions.Typings.{IsTyping, IsWhyUntyped};
-ghost use Rattle.sj_accept.specs.Lowered.{IsWhole, IsSound};
+ghost use Rattle.java_types.specs.definitions.Typings.{IsWhyUntyped};
+ghost use Rattle.sj_accept.specs.Lowered.{IsWhole};
 ghost use Rattle.sj_grammar.specs.definitions.SourceTrees.{SourceTree};
 ghost use Rattle.sj_accept.specs.definitions.Sources.{IsParsed};
 ghost use Rattle.sj_accept.specs.definitions.Systems.{Accepts};
@@ -17,11 +17,11 @@ use crate::laws::{sources_are_one_tree, trees_are_whole};
 use crate::program::system_of;
 use crate::refusal::{AcceptError, Refusal};
 use crate::rules::keep_static_rules;
-use java_types::{TypeError, Typed, fitting_kinds, typed};
+use java_types::{TypeError, typed};
 use kernel_terms::System;
 use sj_ast::{Name, Raw, Tree};
 use sj_lexer::{LexError, lex};
-use sj_names::{BindError, Bound, bind, fitting_names, sound_interface, sound_tables};
+use sj_names::{BindError, Bound, bind};
 use std::alloc::Global;
 use stmt_parser::{ParseError, parse};
 use tick_tree::system_exits_fit;
@@ -72,7 +72,7 @@ fn kind_error(error: TypeError) -> AcceptError
 pub const MOST_SOURCE_BYTES: usize = 1_048_576;
 
 /// The tree that the source is.
-fn read_tree(alloc: Global, source: &[u8]) -> Result<Tree<Name, Raw<Name>>, AcceptError>
+pub fn read_tree(alloc: Global, source: &[u8]) -> Result<Tree<Name, Raw<Name>>, AcceptError>
     requires { length source.now ≤ most_source_bytes }
     ensures { MatchResult result (IsParsed source.now) (IsWhyNot source.now) }
 {
@@ -86,17 +86,13 @@ fn read_tree(alloc: Global, source: &[u8]) -> Result<Tree<Name, Raw<Name>>, Acce
     }
 }
 
-// What is promised of the names and kinds of a tree.
-fn typed_trees_are_sound(tree: &Tree<Name, Raw<Name>>, bound: &Bound, typed: &Typed)
+/// The tree with numbers for its names, or the first failure of its names.
+pub fn bound_tree(alloc: Global, tree: &Tree<Name, Raw<Name>>) -> Result<Bound, BindError>
     requires whole { IsWhole tree.now }
-    requires binding { IsBinding tree.now bound.now }
-    requires typing { IsTyping bound.now typed.now }
-    ensures { IsSound typed.now.tables typed.now.tree }
+    ensures bound { IfOk result (IsBinding tree.now) }
+    ensures why { IfErr result (IsWhyUnbound tree.now) }
 {
-    sound_tables(tree);
-    sound_interface(tree);
-    fitting_names(tree);
-    fitting_kinds(bound, typed);
+    bind(alloc, tree)
 }
 
 /// The system of an accepted source. A refusal is the first reason in this order: the first place where the bytes
@@ -109,7 +105,7 @@ pub fn accept(alloc: Global, source: &[u8]) -> Result<System, AcceptError>
     sources_are_one_tree();
     trees_are_whole();
     let tree = read_tree(alloc, source)?;
-    let bound = match bind(alloc, &tree) {
+    let bound = match bound_tree(alloc, &tree) {
         Ok(bound) => bound,
         Err(error) => return Err(name_error(error)),
     };
@@ -117,7 +113,6 @@ pub fn accept(alloc: Global, source: &[u8]) -> Result<System, AcceptError>
         Ok(typed) => typed,
         Err(error) => return Err(kind_error(error)),
     };
-    typed_trees_are_sound(&tree, &bound, &typed);
     let Some(system) = system_of(alloc, typed)? else {
         return Err(AcceptError::Refused(Refusal::Later));
     };

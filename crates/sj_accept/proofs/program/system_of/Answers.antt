@@ -6,7 +6,7 @@ use Rattle.sj_accept.proofs.program.system_of.Goals as goal
 pub new-requires : goal.new-requires
 new-requires c =
     rw c.from_vec.ensures
-    (well_formed c.args.typed.tables c.args.typed.tree c.in-Ok-Some.terms.items c.requires (sym c.tables_are_built.ensures ∙ c.if-not-tables_are_built.false) (rw c.in-Ok-Some.field-0-is at (rw c.as_slice.ensures at c.in-Ok-Some.ensures)))
+    (well_formed c.args.typed.tables c.args.typed.tree c.in-Ok-Some.terms.items c.args.typed.sound c.args.typed.fitting (sym c.tables_are_built.ensures ∙ c.if-not-tables_are_built.false) (rw c.in-Ok-Some.field-0-is at (rw c.as_slice.ensures at c.in-Ok-Some.ensures)))
 
 pub returns-in-Ok-Some : goal.returns-in-Ok-Some
 returns-in-Ok-Some c =
