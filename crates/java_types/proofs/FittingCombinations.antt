@@ -62,8 +62,8 @@ valued_fits (Some v) h = written_fits v.kind v.combine h
 
 -- lists of signals
 
-two_fit : (as bs : List SignalInfo) → list_all combination_fits as ≡ true → list_all combination_fits bs ≡ true → list_all combination_fits (as ++ bs) ≡ true
-two_fit as bs g h = list_all-append combination_fits as bs ∙ both_true (list_all combination_fits as) (list_all combination_fits bs) g h
+two_fit : (xs ys : List SignalInfo) → list_all combination_fits xs ≡ true → list_all combination_fits ys ≡ true → list_all combination_fits (xs ++ ys) ≡ true
+two_fit xs ys g h = list_all-append combination_fits xs ys ∙ both_true (list_all combination_fits xs) (list_all combination_fits ys) g h
 
 ports_fit : (ns : List (List Mention)) (n : ℕ) (ps : List (Port Name)) (s : Scope) → flat_map port_failures (numbered_ports ps s).value ≡ [] → list_all combination_fits (port_signals ns n ps) ≡ true
 ports_fit ns n [] s h = refl

@@ -1,5 +1,5 @@
 -- The traps of a source nest no deeper than its levels.
-use Rattle.std.proofs.Common.{◌≡◌, ℕ, suc, max, ◌+◌, ◌<◌, ◌≤◌, true, false, nat_le, cond, List, [], ◌∷◌, length, map, Option, Some, None, ap, refl, sym, ◌∙◌, subst, arith}
+use Rattle.std.proofs.Common.{◌≡◌, ℕ, suc, max, ◌+◌, ◌<◌, ◌≤◌, true, false, ◌&&◌, nat_le, cond, List, [], ◌∷◌, length, map, Option, Some, None, ap, refl, sym, ◌∙◌, subst, arith}
 use Rattle.std.specs.List.{list_all}
 use Rattle.std.proofs.lemmas.Bool.{le-leb}
 use Rattle.java_values.specs.declared.op.Op2.{Op2}
@@ -140,7 +140,7 @@ module _ (source : List ℕ) where
         (passed d f (then (read Name h.0 refl) (then (read_where (has (assign_of t.class)) (ap has h.1) (assign_flat t.class)) (then (expr_passes e h.2) (read (Mark mark.Semicolon) h.3 refl)))))
     stmt_held (IfStmt w o e c b NoElse) h d more l f =
         let one = block_held b h.4 d more (passed d f (then (read (Reserved word.If) h.0 refl) (enclosed h.1 (expr_passes e h.2) h.3))) in
-        held_two d (block_trap_depth (block_of source b)) 0 w (form.If (raw_of source e) (block_of source b) None) (form_depth (Form-F.If (raw_of source e) (block_of source b) None) (form.If (raw_of source e) (block_of source b) None) (rolls-If (raw_of source e) (block_of source b) None)) one.within l one.after
+        held_two d (block_trap_depth (block_of source b)) 0 w (form.If (raw_of source e) (block_of source b) None) (form_depth (Form-F.If (raw_of source e) (block_of source b) None) (form.If (raw_of source e) (block_of source b) None) (rolls-If (raw_of source e) (block_of source b) None)) one.within (omega arith) one.after
     stmt_held (IfStmt w o e c b (ElseBlock v x)) h d more l f =
         let one = block_held b h.4 d (v ∷ print_block x more) (passed d f (then (read (Reserved word.If) h.0 refl) (enclosed h.1 (expr_passes e h.2) h.3))) in
         let two = block_held x h.5.1 d more (passed d one.after (read (Reserved word.Else) h.5.0 refl)) in
@@ -149,7 +149,7 @@ module _ (source : List ℕ) where
         (form_depth (Form-F.If (raw_of source e) (block_of source b) (Some (block_of source x))) (form.If (raw_of source e) (block_of source b) (Some (block_of source x))) (rolls-If (raw_of source e) (block_of source b) (Some (block_of source x)))) one.within (omega arith) two.after
     stmt_held (PresentStmt w o u c b NoElse) h d more l f =
         let one = block_held b h.4 d more (passed d f (then (read (Reserved word.Present) h.0 refl) (enclosed h.1 (test_passes u h.2) h.3))) in
-        held_two d (block_trap_depth (block_of source b)) 0 w (form.Present (test_of source u) (block_of source b) None) (form_depth (Form-F.Present (test_of source u) (block_of source b) None) (form.Present (test_of source u) (block_of source b) None) (rolls-Present (test_of source u) (block_of source b) None)) one.within l
+        held_two d (block_trap_depth (block_of source b)) 0 w (form.Present (test_of source u) (block_of source b) None) (form_depth (Form-F.Present (test_of source u) (block_of source b) None) (form.Present (test_of source u) (block_of source b) None) (rolls-Present (test_of source u) (block_of source b) None)) one.within (omega arith)
         one.after
     stmt_held (PresentStmt w o u c b (ElseBlock v x)) h d more l f =
         let one = block_held b h.4 d (v ∷ print_block x more) (passed d f (then (read (Reserved word.Present) h.0 refl) (enclosed h.1 (test_passes u h.2) h.3))) in
@@ -189,7 +189,7 @@ module _ (source : List ℕ) where
         (record { within = one.within; after = passed d one.after (then (read (Reserved word.Each) h.2 refl) (then (enclosed h.3 (test_passes u h.4) h.5) (read (Mark mark.Semicolon) h.6 refl))) })
 
     stmts_held : (ss : Stmts) → IsStmts ss → (d : ℕ) (more : List Token) → d ≤ 64 → Fine d (print_stmts ss more) → Held (deepest (map stmt_trap_depth (stmts_of source ss))) d more
-    stmts_held Done h d more l f = record { within = l; after = f }
+    stmts_held Done h d more l f = record { within = omega arith; after = f }
     stmts_held (Then s ss) h d more l f =
         let one = stmt_held s h.0 d (print_stmts ss more) l f in
         let two = stmts_held ss h.1 d more l one.after in
@@ -207,7 +207,7 @@ module _ (source : List ℕ) where
         record { within = omega arith; after = closed d (ap is_opening h.2) (ap is_closing h.2) all.after }
 
     others_held : (m : sign.Mark) → is_flat (Mark m) ≡ true → (o : Others) → IsOthers m o → (d : ℕ) (more : List Token) → d ≤ 64 → Fine d (print_others o more) → Held (deepest (map block_trap_depth (others_of source o))) d more
-    others_held m q NoOther h d more l f = record { within = l; after = f }
+    others_held m q NoOther h d more l f = record { within = omega arith; after = f }
     others_held m q (Beside t b o) h d more l f =
         let one = block_held b h.1 d (print_others o more) (passed d f (read (Mark m) h.0 q)) in
         let two = others_held m q o h.2 d more l one.after in
@@ -229,7 +229,9 @@ ports_pass (PortThen p ps) h = then (port_passes p h.0) (ports_pass ps h.1)
 
 all_nest : (bs : List SourceBlock) → deepest (map block_trap_depth bs) ≤ 64 → list_all (λ b. nat_le (block_trap_depth b) most_traps) bs ≡ true
 all_nest [] l = refl
-all_nest (b ∷ bs) l = ap (λ x. Rattle.std.specs.Prelude.cond x (list_all (λ c. nat_le (block_trap_depth c) most_traps) bs) false) (le-leb (block_trap_depth b) 64 (omega arith)) ∙ all_nest bs (omega arith)
+all_nest (b ∷ bs) l =
+    let m : max (block_trap_depth b) (deepest (map block_trap_depth bs)) ≤ 64 = l in
+    ap (λ x. x && list_all (λ (c : SourceBlock). nat_le (block_trap_depth c) most_traps) bs) (le-leb (block_trap_depth b) 64 (omega arith)) ∙ all_nest bs (omega arith)
 
 program_nests : (source : List ℕ) (p : Program) → IsProgram p → Fine 0 (print_program p []) → traps_nest most_traps (tree_of source p) ≡ true
 program_nests source p i f =
