@@ -402,7 +402,10 @@ fn with_a_later_domain(alloc: Global, signals: u32) -> Result<(String, u32), Fai
 #[test]
 fn counts_signals_of_a_later_domain(rt: HostRuntime) -> Result<(), Fail> {
     let (most, _) = with_a_later_domain(rt.alloc(), 1023)?;
-    assert_eq!(rt; refusal_of(rt.alloc(), most.as_bytes())?, Some(Refusal::Later));
+    assert_eq!(rt;
+        refusal_of(rt.alloc(), most.as_bytes())?,
+        Some(Refusal::Later)
+    );
     let (more, place) = with_a_later_domain(rt.alloc(), 1024)?;
     assert_eq!(rt;
         refusal_of(rt.alloc(), more.as_bytes())?,
