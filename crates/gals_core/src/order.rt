@@ -73,16 +73,6 @@ impl OrderPlan {
     }
 }
 
-// Adds a log, into memory that is there already.
-fn push_within(logs: &mut Vec<Log>, log: Log)
-    requires { vec_len logs.old < vec_capacity logs.old }
-    ensures items { logs.new.items ≡ logs.old.items ++ log ∷ [] }
-    ensures len { vec_len logs.new ≡ vec_len logs.old + 1 }
-    ensures capacity { vec_capacity logs.old ≤ vec_capacity logs.new }
-{
-    let _ = logs.push(log);
-}
-
 // The logs of the domains, moved into a list with memory for them.
 fn into_logs(domains: Vec<Domain>, room: Vec<Log>) -> Vec<Log>
     requires empty { room.items ≡ [] }
@@ -91,7 +81,7 @@ fn into_logs(domains: Vec<Domain>, room: Vec<Log>) -> Vec<Log>
 {
     let mut logs = room;
     for domain in domains {
-        push_within(&mut logs, domain.into_log());
+        logs.push_reserved(domain.into_log());
     }
     logs
 }

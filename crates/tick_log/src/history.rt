@@ -1,7 +1,6 @@
 ghost use Rattle.std.specs.Prelude.{◌≡◌, ◌-◌, ◌≤◌, [], ◌∷◌, ◌++◌, length, IfOk, IsOk};
 ghost use Rattle.tick_log.specs.definitions.Runs.{row_at};
 
-use crate::log::push_within;
 use java_values::NoMemory;
 use std::alloc::Global;
 use std::marker::Model;
@@ -53,7 +52,7 @@ impl History {
           room = self.old.room - 1;
         } }
     {
-        push_within(&mut self.rows, row);
+        self.rows.push_reserved(row);
         self.room -= 1;
     }
 

@@ -87,7 +87,7 @@ impl Log {
         } }
     {
         append(&mut self.statuses, present, values);
-        push_within(&mut self.stamps, stamp);
+        self.stamps.push_reserved(stamp);
         self.ended = ended;
         self.room -= 1;
     }
@@ -144,16 +144,6 @@ fn append(statuses: &mut Vec<Option<i64>>, present: &[bool], values: &[i64])
     ensures capacity { vec_capacity statuses.old ≤ vec_capacity statuses.new }
 {
     for (i, is_present) in present.iter().enumerate() {
-        push_within(statuses, is_present.then_some(values[i]));
+        statuses.push_reserved(is_present.then_some(values[i]));
     }
-}
-
-// Adds an item, into memory that is there already.
-pub fn push_within<T: Drop>(items: &mut Vec<T>, item: T)
-    requires { vec_len items.old < vec_capacity items.old }
-    ensures items { items.new.items ≡ items.old.items ++ item ∷ [] }
-    ensures len { vec_len items.new ≡ vec_len items.old + 1 }
-    ensures capacity { vec_capacity items.old ≤ vec_capacity items.new }
-{
-    let _ = items.push(item);
 }

@@ -10,16 +10,6 @@ use crate::step::ends_of::EndJoin;
 use cell_core::Joined;
 use java_values::NoMemory;
 
-// Adds a join, into memory that is there already.
-fn push_within(list: &mut Vec<EndJoin>, join: EndJoin)
-    requires { vec_len list.old < vec_capacity list.old }
-    ensures items { list.new.items ≡ list.old.items ++ join ∷ [] }
-    ensures len { vec_len list.new ≡ vec_len list.old + 1 }
-    ensures capacity { vec_capacity list.old ≤ vec_capacity list.new }
-{
-    let _ = list.push(join);
-}
-
 // Adds the join, if there is one, at the end of this number.
 fn add_join(lists: &mut Vec<Vec<EndJoin>>, at: usize, answer: Option<Joined>, ticks: u32)
     requires within { at < length lists.old.items }
@@ -34,7 +24,7 @@ fn add_join(lists: &mut Vec<Vec<EndJoin>>, at: usize, answer: Option<Joined>, ti
 {
     if let Some(joined) = answer {
         let list = &mut lists[at];
-        push_within(list, EndJoin { joined, ticks });
+        list.push_reserved(EndJoin { joined, ticks });
     }
 }
 

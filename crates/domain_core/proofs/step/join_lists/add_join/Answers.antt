@@ -6,5 +6,5 @@ use Rattle.domain_core.proofs.step.join_lists.add_join.Goals as goal
 
 pub returns-in-Some-clause-joins : goal.returns-in-Some-clause-joins
 returns-in-Some-clause-joins c =
-    joins_pushed c.args.lists.now.items c.args.at c.index_mut-list.result.now c.push_within.new.list (record { joined = c.in-Some.joined; ticks = c.args.ticks }) c.requires.within (sym c.index_mut-list.ensures.value) c.push_within.ensures.items
+    joins_pushed c.args.lists.now.items c.args.at c.index_mut-list.result.now c.push_reserved.new.self (record { joined = c.in-Some.joined; ticks = c.args.ticks }) c.requires.within (sym c.index_mut-list.ensures.value) c.push_reserved.ensures.items
     ∙ ap (λ x. add_join c.args.ticks c.args.at x (joins_in c.args.lists.now.items)) (sym c.in-Some.is)
