@@ -1,11 +1,11 @@
 -- Wires that satisfy well-kinded equations lie in their classes, and so do their operands.
-use Rattle.std.proofs.Common.{rules, ◌≡◌, ◌≢◌, ℕ, zero, suc, ◌+◌, ◌<◌, ◌≤◌, ℤ, pos, Bool, true, false, ◌&&◌, ◌||◌, not, cond, Option, Some, None, IsSome, List, [], ◌∷◌, length, take, get_or, refl, sym, ap, ◌∙◌, subst, arith, ◌⊎◌, inl, inr}
+use Rattle.std.proofs.Common.{rules, ◌≡◌, ◌≢◌, ℕ, zero, suc, ◌+◌, ◌<◌, ℤ, pos, Bool, true, false, ◌&&◌, ◌||◌, not, cond, Option, Some, None, IsSome, List, [], ◌∷◌, length, take, get_or, refl, sym, ap, ◌∙◌, subst, arith, inl, inr}
 use Rattle.java_values.specs.declared.kind.Kind.{Kind}
 use Rattle.java_values.specs.declared.kind.Kind.TheVariants.{Boolean}
 use Rattle.java_values.specs.declared.op.Op2.{Op2}
 use Rattle.java_values.specs.declared.op.Op2.TheVariants as op2
 use Rattle.java_values.specs.Kinds.{IsInRange, result_kind1, result_kind2}
-use Rattle.java_values.specs.Arithmetic.{is_true, of_bool, applied1, applied2, cast_to, HasDivisor}
+use Rattle.java_values.specs.Arithmetic.{of_bool, applied1, applied2, cast_to, HasDivisor}
 use Rattle.java_values.proofs.InRangeLemmas.{wrapped_range}
 use Rattle.wire_code.specs.declared.formula.Formula.{Formula}
 use Rattle.wire_code.specs.declared.formula.Formula.TheVariants.{Const, Get, And, Or, Not, Apply1, Apply2, Cast, Choose}

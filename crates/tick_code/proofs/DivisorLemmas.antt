@@ -1,5 +1,5 @@
 -- Divisors of a small code.
-use Rattle.std.proofs.Common.{rules, ◌≡◌, ◌≢◌, ℕ, ℤ, pos, sym, ◌∙◌, refl, ◌==◌, cond, [], ◌∷◌, inl, inr, ◌⊎◌, arith}
+use Rattle.std.proofs.Common.{rules, ◌≡◌, ◌≢◌, ℕ, ℤ, pos, sym, refl, ◌==◌, cond, [], ◌∷◌, inl, inr, arith}
 use Rattle.java_values.specs.declared.kind.Kind.TheVariants.{Int}
 use Rattle.wire_code.specs.declared.formula.Formula.TheVariants.{Const, Get}
 use Rattle.tick_code.specs.WellKinded.{Gives, Of, Constant, Suits}

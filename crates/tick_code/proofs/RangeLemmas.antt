@@ -1,18 +1,14 @@
 -- The number of an operation lies in the kind of its result.
-use Rattle.std.proofs.Common.{rules, ◌≡◌, ℕ, zero, suc, ◌^◌, ◌/◌, ◌<◌, ◌≤◌, ℤ, pos, negsuc, neg_ℤ, ◌-ℤ◌, ◌≤ℤ◌, Bool, true, false, ◌&&◌, cond, Option, Some, None, ◌⊎◌, inl, inr, refl, sym, ap, ◌∙◌, subst, arith, FitsSigned, Fits, to_z, of_z}
+use Rattle.std.proofs.Common.{rules, ◌≡◌, ℕ, zero, suc, ℤ, pos, negsuc, neg_ℤ, ◌-ℤ◌, Bool, true, false, ◌&&◌, cond, Some, None, ◌⊎◌, inl, inr, refl, FitsSigned, Fits, to_z, of_z}
 use Rattle.std.specs.Int.{Width, w32, w64, int_shr, int_bit_and, int_bit_or, int_bit_xor}
 use Rattle.std.specs.Int.Bits.{bit_and, bit_or, bit_xor}
 use Rattle.std.proofs.lemmas.Nat.{shr_le}
 use Rattle.std.proofs.Math.Facts.{Fits-and, Fits-or, Fits-xor, Fits-of_z, sfits_to_z}
 use Rattle.java_values.specs.declared.kind.Kind.{Kind}
 use Rattle.java_values.specs.declared.kind.Kind.TheVariants.{Boolean, Byte, Short, Char, Int, Long}
-use Rattle.java_values.specs.declared.op.Op1.{Op1}
-use Rattle.java_values.specs.declared.op.Op1.TheVariants as op1
-use Rattle.java_values.specs.declared.op.Op2.{Op2}
-use Rattle.java_values.specs.declared.op.Op2.TheVariants as op2
-use Rattle.java_values.specs.Kinds.{IsInRange, is_integer, are_boolean, promoted, promoted2, if_integers, if_booleans, result_kind1, result_kind2}
-use Rattle.java_values.specs.Arithmetic.{of_bool, wrapped, applied1, applied2, computed, working_kind, distance, width_of}
-use Rattle.java_values.proofs.InRangeLemmas.{wrapped_range, int_range, long_range}
+use Rattle.java_values.specs.Kinds.{IsInRange, is_integer, promoted, promoted2}
+use Rattle.java_values.specs.Arithmetic.{of_bool}
+use Rattle.java_values.proofs.InRangeLemmas.{int_range, long_range}
 
 -- a test that gives one kind or none
 pub if_kind : (t : Bool) (p m : Kind) → cond t (Some p) None ≡ Some m → (t ≡ true) × (p ≡ m)

@@ -1,11 +1,10 @@
 -- One more equation is solved.
-use Rattle.std.proofs.Common.{◌≡◌, ◌≢◌, ℕ, zero, suc, ◌+◌, ◌<◌, ◌≤◌, ℤ, pos, List, [], ◌∷◌, ◌++◌, length, take, get_or, refl, sym, ap, ◌∙◌, subst, arith, get_or-set_other, get_or-set_same}
+use Rattle.std.proofs.Common.{◌≡◌, ℕ, suc, ◌+◌, ◌<◌, ℤ, pos, List, [], ◌∷◌, length, take, get_or, sym, ap, ◌∙◌, subst, arith, get_or-set_other, get_or-set_same}
 use Rattle.std.proofs.Math.ListN.{set}
 use Rattle.std.proofs.Math.Seq.{take-suc}
-use Rattle.java_values.specs.declared.kind.Kind.{Kind}
 use Rattle.wire_code.specs.declared.equation.Equation.{Equation}
 use Rattle.wire_code.specs.Formulas.{IsOrdered, Satisfies, ReadsBelow, number_at, formula_value}
-use Rattle.wire_code.proofs.EquationLemmas.{ordered_at, ordered_take, length_take, reads_more, value_agreeing, satisfies_agreeing, satisfies_append}
+use Rattle.wire_code.proofs.EquationLemmas.{ordered_at, ordered_take, length_take, value_agreeing, satisfies_agreeing, satisfies_append}
 use Rattle.tick_code.specs.WellKinded.{Suits, InClass}
 use Rattle.tick_code.specs.Operands.{HasOperands}
 use Rattle.tick_code.proofs.ClassLemmas.{wires_in_classes, operands_lie, classes_at, classes_take}

@@ -1,5 +1,5 @@
 -- Words of the worked examples.
-use Rattle.std.specs.Prelude.{pos, List, [], ◌∷◌}
+use Rattle.std.specs.Prelude.{List, [], ◌∷◌}
 use Rattle.java_values.specs.declared.kind.Kind.TheVariants.{Int}
 use Rattle.java_values.specs.declared.op.Op2.TheVariants.{Div}
 use Rattle.wire_code.specs.declared.formula.Formula.{Formula}

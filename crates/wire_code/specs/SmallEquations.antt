@@ -1,5 +1,5 @@
 -- Words of the worked examples.
-use Rattle.std.specs.Prelude.{ℕ, ℤ, pos, negsuc, List, [], ◌∷◌}
+use Rattle.std.specs.Prelude.{ℕ, ℤ, pos, negsuc, [], ◌∷◌}
 use Rattle.wire_code.specs.declared.formula.Formula.{Formula}
 use Rattle.wire_code.specs.declared.equation.Equation.{Equation}
 use Rattle.wire_code.specs.Formulas.{number_at, formula_value}

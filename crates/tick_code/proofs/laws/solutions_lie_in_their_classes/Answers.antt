@@ -1,5 +1,4 @@
 use Rattle.std.proofs.Common.{arith}
-use Rattle.wire_code.specs.Formulas.{number_at}
 use Rattle.tick_code.proofs.ClassLemmas.{wires_in_classes}
 use Rattle.tick_code.proofs.laws.solutions_lie_in_their_classes.Goals as goal
 
