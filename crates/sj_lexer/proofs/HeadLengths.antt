@@ -126,7 +126,7 @@ signs_within : (ss : List Sign) (bytes : List ℕ) → list_all is_spelled ss �
 signs_within [] bytes a = omega arith
 signs_within (s ∷ ss) bytes a = if_sign (starts_with ◌==◌ bytes s.text) s (find (λ x. starts_with ◌==◌ bytes x.text) ss) (length bytes) (λ h. (at_least_one s (and_left (is_spelled s) (list_all is_spelled ss) a), starts_length bytes s.text h)) (signs_within ss bytes (and_right (is_spelled s) (list_all is_spelled ss) a))
 
-sign_within : (bytes : List ℕ) → Within (sign (longest_sign bytes)) (length bytes)
+pub sign_within : (bytes : List ℕ) → Within (sign (longest_sign bytes)) (length bytes)
 sign_within bytes = signs_within signs bytes refl
 
 run_length : (b : ℕ) (bs : List ℕ) → is_word_byte b ≡ true → Within (run (take_while is_word_byte (b ∷ bs))) (length (b ∷ bs))

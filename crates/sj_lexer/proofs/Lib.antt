@@ -4,3 +4,4 @@ mod HeadLengths
 mod Lexing
 mod OneReading
 mod NameTexts
+mod Steps

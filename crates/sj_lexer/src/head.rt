@@ -7,6 +7,7 @@ ghost use Rattle.sj_lexer.specs.definitions.ReservedWords.{reserved_word};
 ghost use Rattle.sj_lexer.specs.definitions.Numbers.{number_class};
 ghost use Rattle.sj_lexer.specs.definitions.Characters.{character};
 ghost use Rattle.sj_lexer.specs.definitions.Signs.{longest_sign};
+ghost use Rattle.sj_lexer.specs.Lexing.{begins_sign};
 ghost use Rattle.sj_lexer.specs.definitions.Heads.{is_white, is_line_end, comment_end, comment, word, number, quoted, sign, run, lexeme, head};
 
 use crate::characters::read_character;
@@ -38,10 +39,10 @@ pub enum Head {
 }
 
 /// How many bytes a name may have.
-const MOST_NAME_BYTES: usize = 64;
+pub const MOST_NAME_BYTES: usize = 64;
 
 /// `A` to `Z`, `a` to `z` or `_`.
-fn is_letter(byte: u8) -> bool
+pub fn is_letter(byte: u8) -> bool
     ensures { result ≡ is_letter byte }
 {
     (b'A' <= byte && byte <= b'Z') || ((b'a' <= byte && byte <= b'z') || byte == b'_')
@@ -57,6 +58,13 @@ fn is_white(byte: u8) -> bool
     ensures { result ≡ is_white byte }
 {
     byte == b'\t' || (byte == b'\n' || (byte == b'\r' || byte == b' '))
+}
+
+/// Whether what begins with the byte is a sign or no token.
+pub fn begins_sign(byte: u8) -> bool
+    ensures { result ≡ begins_sign byte }
+{
+    !(is_white(byte) || (is_word_byte(byte) || (byte == b'\'' || byte == b'/')))
 }
 
 fn white_len(bytes: &[u8]) -> usize
@@ -78,7 +86,8 @@ fn run_len(bytes: &[u8]) -> usize
     bytes.iter().take_while(|byte| is_word_byte(**byte)).count()
 }
 
-fn run_of(bytes: &[u8]) -> &[u8]
+/// The letters, digits and `_` that the bytes begin with.
+pub fn run_of(bytes: &[u8]) -> &[u8]
     ensures { result.now ≡ take_while is_word_byte bytes.now }
 {
     bytes.split_at(run_len(bytes)).0
