@@ -11,7 +11,7 @@ use crate::step::ends_of::{EndJoin, EndOf};
 use crate::step::parts::{Program, Scratch, State};
 use cell_core::Side;
 use java_values::NoMemory;
-use kernel_terms::{ChannelInfo, SignalInfo, Sort, Tables};
+use kernel_terms::{ChannelInfo, SignalInfo, Tables};
 use std::alloc::Global;
 
 /// The ends that a domain has, in order of channel number.
@@ -43,12 +43,6 @@ pub fn list_ends(
     Ok(ends)
 }
 
-fn is_interface_of(domain: u32, signal: &SignalInfo) -> bool
-    ensures { result ≡ is_interface_of domain signal.now }
-{
-    signal.domain == domain && signal.sort != Sort::Local
-}
-
 /// The interface signals of a domain, in order of declaration.
 #[tactic(auto, using(crate::proofs::lemmas::step::CompileLists::list_steps))]
 pub fn list_signals(
@@ -64,7 +58,7 @@ pub fn list_signals(
     let mut numbers = Vec::new(alloc);
     for (at, signal) in signals.iter().enumerate() {
         let number = at as u32;
-        if is_interface_of(domain, signal) {
+        if signal.is_of_interface(u64::from(domain)) {
             numbers.push(number)?;
         }
     }
@@ -72,56 +66,47 @@ pub fn list_signals(
 }
 
 /// How many variables a domain has.
-#[tactic(auto, using(crate::proofs::lemmas::step::CompileLists::count_steps))]
+#[tactic(auto, using(crate::proofs::lemmas::step::CompileLists::counting))]
 pub fn count_variables(tables: &Tables, domain: u32) -> usize
     ensures { result ≡ length (variables_of tables.now domain) }
 {
     let variables = tables.variables.as_slice();
-    let mut count = 0;
-    for variable in variables {
-        if variable.domain == domain {
-            count += 1;
-        }
-    }
-    count
+    variables
+        .iter()
+        .filter(|variable| variable.domain == domain)
+        .count()
 }
 
 fn is_valued_of(domain: u32, signal: &SignalInfo) -> bool
     ensures { result ≡ is_valued_of domain signal.now }
 {
-    is_interface_of(domain, signal) && signal.kind.is_some()
+    signal.is_of_interface(u64::from(domain)) && signal.kind.is_some()
 }
 
 /// How many interface signals of a domain have a value.
-#[tactic(auto, using(crate::proofs::lemmas::step::CompileLists::count_steps))]
+#[tactic(auto, using(crate::proofs::lemmas::step::CompileLists::counting))]
 pub fn count_values(tables: &Tables, domain: u32) -> usize
     ensures count { result ≡ length (valued_of tables.now domain) }
     ensures few { result ≤ length tables.now.signals }
 {
     let signals = tables.signals.as_slice();
-    let mut count = 0;
-    for signal in signals {
-        if is_valued_of(domain, signal) {
-            count += 1;
-        }
-    }
-    count
+    signals
+        .iter()
+        .filter(|signal| is_valued_of(domain, signal))
+        .count()
 }
 
 /// On how many channels a domain receives.
-#[tactic(auto, using(crate::proofs::lemmas::step::CompileLists::count_steps))]
+#[tactic(auto, using(crate::proofs::lemmas::step::CompileLists::counting))]
 pub fn count_received(tables: &Tables, domain: u32) -> usize
     ensures count { result ≡ length (received_by tables.now domain) }
     ensures few { result ≤ length tables.now.channels }
 {
     let channels = tables.channels.as_slice();
-    let mut count = 0;
-    for channel in channels {
-        if channel.receiver == domain {
-            count += 1;
-        }
-    }
-    count
+    channels
+        .iter()
+        .filter(|channel| channel.receiver == domain)
+        .count()
 }
 
 /// So many numbers, from the first on.

@@ -5,8 +5,8 @@ use Rattle.std.specs.Prelude.{◌==◌}
 use Rattle.std.proofs.lemmas.Bool.{eq-eqb, ne_eqb, cond-true, cond-false}
 use Rattle.std.specs.List.{range_with_len}
 use Rattle.kernel_terms.specs.declared.tables.ChannelInfo.{ChannelInfo}
-use Rattle.kernel_terms.specs.declared.tables.VariableInfo.{VariableInfo}
 use Rattle.kernel_terms.specs.TableEntries.{numbers_where}
+use Rattle.kernel_terms.proofs.SystemLimits.{numbers_count}
 use Rattle.cell_core.specs.declared.moves.Side.TheVariants.{Sender, Receiver}
 use Rattle.domain_core.specs.declared.step.ends_of.EndOf.{EndOf}
 use Rattle.domain_core.specs.definitions.step.Domains.{ends_from}
@@ -101,46 +101,7 @@ lists_push lists n v before empty =
 
 pub ruleset list_steps = (sends_more, receives_more, none_more, number_more, number_none, ends_first, numbers_first, ends_done, ends_few, numbers_done, numbers_few, lists_push)
 
--- the count so far and that of the rest
-pub record CountSoFar {X : Type 0} (is : X → Bool) (xs : List X) (at count : ℕ) : Type 0 where
-  pub all : count + length (numbers_where is at (drop at xs)) ≡ length (numbers_where is 0 xs)
-
-pub count_first : {X : Type 0} (is : X → Bool) (xs : List X) → CountSoFar is xs 0 0
-count_first is xs = record { all = omega arith }
-
-module _ {X : Type 0} (is : X → Bool) (xs : List X) (at count : ℕ) (x : X) (less : at < length xs) (here : x ≡ get_or xs at x) (before : CountSoFar is xs at count) where
-  count_next : (n : ℕ) → length (numbers_where is at (x ∷ drop (suc at) xs)) ≡ n + length (numbers_where is (suc at) (drop (suc at) xs)) → CountSoFar is xs (at + 1) (count + n)
-  count_next n e = subst (λ k. CountSoFar is xs k (count + n)) (sym (add-one at))
-      (record { all = (let was = before.all in let same = ap (λ l. length (numbers_where is at l)) (next_entry xs at x less here) in omega (arith, was, same, e)) })
-
-  pub count_more : is x ≡ true → CountSoFar is xs (at + 1) (count + 1)
-  count_more yes_is = (let e = ap length (cond-true (is x) (at ∷ numbers_where is (suc at) (drop (suc at) xs)) (numbers_where is (suc at) (drop (suc at) xs)) yes_is) in count_next 1 (omega (arith, e)))
-
-  pub count_same : is x ≡ false → CountSoFar is xs (at + 1) count
-  count_same no_is = subst (λ k. CountSoFar is xs (at + 1) k) (omega arith) (let e = ap length (cond-false (is x) (at ∷ numbers_where is (suc at) (drop (suc at) xs)) (numbers_where is (suc at) (drop (suc at) xs)) no_is) in count_next 0 (omega (arith, e)))
-
-pub count_done : {X : Type 0} (is : X → Bool) (xs : List X) (at count : ℕ) → length xs ≤ at → CountSoFar is xs at count → count ≡ length (numbers_where is 0 xs)
-count_done is xs at count past before =
-    let none = ap (λ l. length (numbers_where is at l)) (drop_of_length-le xs past) in
-    omega (arith, before.all, none)
-
-pub variable_more : (d : ℕ) (xs : List VariableInfo) (at count : ℕ) (x : VariableInfo) → at < length xs → x ≡ get_or xs at x → CountSoFar (λ (v : VariableInfo). v.domain == d) xs at count
-    → x.domain ≡ d → CountSoFar (λ (v : VariableInfo). v.domain == d) xs (at + 1) (count + 1)
-variable_more d xs at count x less here before is = count_more (λ (v : VariableInfo). v.domain == d) xs at count x less here before (eq-eqb x.domain d is)
-
-pub variable_same : (d : ℕ) (xs : List VariableInfo) (at count : ℕ) (x : VariableInfo) → at < length xs → x ≡ get_or xs at x → CountSoFar (λ (v : VariableInfo). v.domain == d) xs at count
-    → x.domain ≢ d → CountSoFar (λ (v : VariableInfo). v.domain == d) xs (at + 1) count
-variable_same d xs at count x less here before isnt = count_same (λ (v : VariableInfo). v.domain == d) xs at count x less here before (ne_eqb x.domain d isnt)
-
-pub receiver_more : (d : ℕ) (xs : List ChannelInfo) (at count : ℕ) (x : ChannelInfo) → at < length xs → x ≡ get_or xs at x → CountSoFar (λ (v : ChannelInfo). v.receiver == d) xs at count
-    → x.receiver ≡ d → CountSoFar (λ (v : ChannelInfo). v.receiver == d) xs (at + 1) (count + 1)
-receiver_more d xs at count x less here before is = count_more (λ (v : ChannelInfo). v.receiver == d) xs at count x less here before (eq-eqb x.receiver d is)
-
-pub receiver_same : (d : ℕ) (xs : List ChannelInfo) (at count : ℕ) (x : ChannelInfo) → at < length xs → x ≡ get_or xs at x → CountSoFar (λ (v : ChannelInfo). v.receiver == d) xs at count
-    → x.receiver ≢ d → CountSoFar (λ (v : ChannelInfo). v.receiver == d) xs (at + 1) count
-receiver_same d xs at count x less here before isnt = count_same (λ (v : ChannelInfo). v.receiver == d) xs at count x less here before (ne_eqb x.receiver d isnt)
-
-pub ruleset count_steps = (count_first, count_more, count_same, count_done, variable_more, variable_same, receiver_more, receiver_same, numbers_few)
+pub ruleset counting = (numbers_count, numbers_few)
 
 -- a number more
 pub next_number : (first n : ℕ) (l : List ℕ) → l ≡ range_with_len first n → l ++ (first + n) ∷ [] ≡ range_with_len first (n + 1)
