@@ -14,11 +14,13 @@ processor time of the whole command, with its output to /dev/null, and the least
 - loop: one domain with a loop of many statements, each fourth a pause, in many turns. Increments for each
   statement and turn; the statements are what is cut to a quarter.
 
-Five works time reading, names too: a source of 1 MiB that is a program of the grammar, and is refused behind that for
+Seven works time reading, names too: a source of 1 MiB that is a program of the grammar, and is refused behind that for
 its names, or for its first port, an input. Increments for each byte; the goal is at most 6.
 
-- statements: one domain with statements of many forms.
-- operators: assignments of expressions with 256 operators, of all levels in turn.
+- written: statements with names of some letters, one on a line, indented.
+- wide: assignments of expressions with 256 operators between names of some letters, with spaces.
+- statements: one domain with statements of many forms, of names of one letter, without spaces.
+- operators: assignments of expressions with 256 operators, of all levels in turn, likewise.
 - parentheses: assignments of names in 62 parentheses.
 - comments: of both forms.
 - ports: outputs, each of a name of its own.
@@ -137,6 +139,33 @@ def unbuilt(part, piece, ports="", declared=""):
     return source, "-", len(source)
 
 
+WRITTEN = """\
+        // the walkers wait ten seconds at most
+        abort (immediate reset) {
+            present (button && !walking) {
+                waited = waited + 1;
+            } else {
+                emit carsGreen(waited);
+            }
+            await (second);
+            if (waited >= limit) {
+                send crossing(waited - limit);
+            }
+        }
+"""
+
+
+def written_work(part):
+    return unbuilt(part, WRITTEN)
+
+
+def wide_work(part):
+    signs = (" + ", " * ", " - ", " & ", " | ", " ^ ")
+    names = ("speed", "target", "gain", "pressure", "offset")
+    more = "".join(signs[n % len(signs)] + names[n % len(names)] for n in range(MOST_OPERATORS))
+    return unbuilt(part, f"level = base{more};\n")
+
+
 def statements_work(part):
     return unbuilt(part, "emit S;pause;x=y+1;send C(7);receive C;present(A&&!B){halt;}else{;}abort(A){await(B);}")
 
@@ -193,6 +222,8 @@ WORKS = (
     ("make", "unit of weight", "", make_work),
     ("text", "byte", "", text_work),
     ("loop", "statement and turn", "", loop_work),
+    ("written", "byte", "refused Unknown", written_work),
+    ("wide", "byte", "refused Unknown", wide_work),
     ("statements", "byte", "refused Unknown", statements_work),
     ("operators", "byte", "refused Unknown", operators_work),
     ("parentheses", "byte", "refused Unknown", parentheses_work),

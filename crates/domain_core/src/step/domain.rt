@@ -32,9 +32,6 @@ use std::snapshot::Snapshot;
 use thiserror::Error;
 use tick_log::Log;
 
-// Each stamp of a tick lies below it.
-const STAMP_LIMIT: u64 = 1 << 62;
-
 /// A compiled clock domain of a system.
 #[derive(Drop)]
 pub struct Domain {
@@ -236,7 +233,7 @@ impl Domain {
             ends,
         );
         let stamp = self.state.cause + 1;
-        if stamp >= STAMP_LIMIT {
+        if stamp >= 1 << 62 {
             stand_none(&mut self.state.standing);
             self.state.stopped = true;
             return Stepped::StampLimit(stamp);
