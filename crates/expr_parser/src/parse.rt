@@ -1,6 +1,7 @@
 // The longest run of tokens from a token on.
 
 ghost use Rattle.std.specs.Prelude.{◌≡◌, ◌≤◌, ◌-◌, length, drop, MatchResult, true, false};
+ghost use Rattle.java_values.specs.SourceLimits.{most_source_bytes};
 ghost use Rattle.sj_grammar.specs.definitions.Sentences.{AreExpression, AreTest, BeginExpression, BeginTest};
 ghost use Rattle.expr_parser.specs.definitions.Longest.{ReadsExpression, ReadsTest, FailsFrom, place_of};
 ghost use Rattle.expr_parser.specs.Reading.{ExpressionBefore, TestBefore, Stops};
@@ -73,7 +74,7 @@ fn longest_test<'a>(
 
 /// The place of the first of these tokens, or the end of the source.
 pub fn place_of(tokens: &[Token], source: &[u8]) -> u32
-    requires { length source.now ≤ 1048576 }
+    requires { length source.now ≤ most_source_bytes }
     ensures { result ≡ place_of tokens.now (length source.now) }
 {
     match tokens.split_first() {
@@ -85,7 +86,7 @@ pub fn place_of(tokens: &[Token], source: &[u8]) -> u32
 /// The place of the first of the last tokens, of which there are as many as in `bad`.
 fn place(tokens: &[Token], bad: &[Token], source: &[u8]) -> u32
     requires fits { length bad.now ≤ length tokens.now }
-    requires small { length source.now ≤ 1048576 }
+    requires small { length source.now ≤ most_source_bytes }
     ensures { result ≡
         place_of (drop (length tokens.now - length bad.now) tokens.now) (length source.now) }
 {
@@ -103,7 +104,7 @@ pub fn expr(
     depth: u32,
 ) -> Result<ExprRead, ParseError>
     requires from { from ≤ length tokens.now }
-    requires small { length source.now ≤ 1048576 }
+    requires small { length source.now ≤ most_source_bytes }
     ensures { MatchResult result (λ r. ReadsExpression source.now tokens.now from depth r.tree
         r.next) (λ e. FailsFrom BeginExpression AreExpression true source.now tokens.now from
         depth e) }
@@ -130,7 +131,7 @@ pub fn test(
     depth: u32,
 ) -> Result<TestRead, ParseError>
     requires from { from ≤ length tokens.now }
-    requires small { length source.now ≤ 1048576 }
+    requires small { length source.now ≤ most_source_bytes }
     ensures { MatchResult result (λ r. ReadsTest source.now tokens.now from depth r.tree r.next)
         (λ e. FailsFrom BeginTest AreTest false source.now tokens.now from depth e) }
 {

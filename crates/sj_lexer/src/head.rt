@@ -12,9 +12,9 @@ ghost use Rattle.sj_lexer.specs.definitions.Heads.{is_white, is_line_end, commen
 
 use crate::characters::read_character;
 use crate::numbers::number_class;
+use crate::reserved_words::reserved_word;
 use crate::signs::longest_sign;
 use crate::token::Class;
-use crate::words::reserved_word;
 use java_values::{Kind, Value};
 
 /// Why bytes begin no token.

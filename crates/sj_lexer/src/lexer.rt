@@ -1,6 +1,7 @@
 // The tokens of a source.
 
 ghost use Rattle.std.specs.Prelude.{◌≡◌, ◌≤◌, ◌<◌, ◌+◌, ◌∷◌, ℕ, List, IfOk, IfErr, MatchResult, length, drop};
+ghost use Rattle.java_values.specs.SourceLimits.{most_source_bytes};
 ghost use Rattle.sj_lexer.specs.declared.lexer.LexError.TheVariants as error;
 ghost use Rattle.sj_lexer.specs.Lexing.{with_token, Adds, Stops};
 ghost use Rattle.sj_lexer.specs.definitions.ReservedWords.{reserved_word};
@@ -10,9 +11,9 @@ ghost use Rattle.sj_lexer.specs.definitions.Readings.{AreTokens, AreInOrder, IsR
 ghost use Rattle.sj_lexer.specs.definitions.Refusals.{IsWhy};
 
 use crate::head::{Fault, Head, MOST_NAME_BYTES, begins_sign, is_letter, make_head, run_of};
+use crate::reserved_words::reserved_word;
 use crate::signs::longest_sign;
 use crate::token::{Class, Token};
-use crate::words::reserved_word;
 use std::alloc::Global;
 use thiserror::Error;
 
@@ -53,7 +54,7 @@ fn after(bytes: &[u8], count: usize) -> &[u8]
 
 // Puts the token of so many bytes behind the others.
 fn put(tokens: &mut Vec<Token>, class: Class, at: u32, count: usize) -> Result<usize, LexError>
-    requires { at + count ≤ 1048576 }
+    requires { at + count ≤ most_source_bytes }
     ensures { MatchResult result (λ n. (n ≡ count) × (tokens.new.items ≡
         with_token tokens.old.items class at count)) (λ e. e ≡ error.NoMemory) }
 {
@@ -70,7 +71,7 @@ fn put(tokens: &mut Vec<Token>, class: Class, at: u32, count: usize) -> Result<u
 
 // Puts a word that begins with a letter.
 fn put_word(tokens: &mut Vec<Token>, bytes: &[u8], at: u32) -> Result<usize, LexError>
-    requires { at + length bytes.now ≤ 1048576 }
+    requires { at + length bytes.now ≤ most_source_bytes }
     ensures { MatchResult result (Adds (word (reserved_word bytes.now) (length bytes.now)) at
         tokens.old.items tokens.new.items) (Stops (word (reserved_word bytes.now)
         (length bytes.now)) at) }
@@ -87,7 +88,7 @@ fn put_word(tokens: &mut Vec<Token>, bytes: &[u8], at: u32) -> Result<usize, Lex
 
 // Puts the sign that the bytes begin with.
 fn put_sign(tokens: &mut Vec<Token>, bytes: &[u8], at: u32) -> Result<usize, LexError>
-    requires { at + length bytes.now ≤ 1048576 }
+    requires { at + length bytes.now ≤ most_source_bytes }
     ensures { MatchResult result (Adds (sign (longest_sign bytes.now)) at tokens.old.items
         tokens.new.items) (Stops (sign (longest_sign bytes.now)) at) }
 {
@@ -100,7 +101,7 @@ fn put_sign(tokens: &mut Vec<Token>, bytes: &[u8], at: u32) -> Result<usize, Lex
 // Puts the token that the bytes begin with, where they begin with one.
 fn put_head(tokens: &mut Vec<Token>, bytes: &[u8], at: u32) -> Result<usize, LexError>
     requires some { 1 ≤ length bytes.now }
-    requires within { at + length bytes.now ≤ 1048576 }
+    requires within { at + length bytes.now ≤ most_source_bytes }
     ensures { MatchResult result (Adds (head bytes.now) at tokens.old.items tokens.new.items)
         (Stops (head bytes.now) at) }
 {
@@ -122,7 +123,7 @@ fn step(
     at: u32,
 ) -> Result<usize, LexError>
     requires is { bytes.now ≡ first ∷ rest.now }
-    requires within { at + length bytes.now ≤ 1048576 }
+    requires within { at + length bytes.now ≤ most_source_bytes }
     ensures { MatchResult result (Adds (head bytes.now) at tokens.old.items tokens.new.items)
         (Stops (head bytes.now) at) }
 {
@@ -139,7 +140,7 @@ fn step(
 /// space and comments. It looks at each byte a bounded number of times.
 #[tactic(auto, using(crate::proofs::Lexing::lexing))]
 pub fn lex(alloc: Global, source: &[u8]) -> Result<Vec<Token>, LexError>
-    requires { length source.now ≤ 1048576 }
+    requires { length source.now ≤ most_source_bytes }
     ensures tokens { IfOk result (λ v. AreTokens source.now v.items) }
     ensures order { IfOk result (λ v. AreInOrder 0 (length source.now) v.items) }
     ensures why { IfErr result (IsWhy source.now) }

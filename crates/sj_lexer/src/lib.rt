@@ -6,9 +6,9 @@ mod head;
 mod laws;
 mod lexer;
 mod numbers;
+mod reserved_words;
 mod signs;
 mod token;
-mod words;
 
 pub use laws::{
     longest_sign_is_taken, name_tokens_are_names, reserved_words_are_no_names,

@@ -1,4 +1,5 @@
 ghost use Rattle.std.specs.Prelude.{◌≤◌, length, MatchResult};
+ghost use Rattle.java_values.specs.SourceLimits.{most_source_bytes};
 ghost use Rattle.stmt_parser.specs.definitions.Parsing.{IsTreeOf, IsNoProgram};
 ghost use Rattle.stmt_parser.specs.Reading.{Stops};
 
@@ -34,7 +35,7 @@ pub fn parse(
     tokens: &[Token],
     source: &[u8],
 ) -> Result<Tree<Name, Raw<Name>>, ParseError>
-    requires { length source.now ≤ 1048576 }
+    requires { length source.now ≤ most_source_bytes }
     ensures { MatchResult result (λ t. IsTreeOf source.now tokens.now t)
         (λ e. IsNoProgram source.now tokens.now e) }
 {

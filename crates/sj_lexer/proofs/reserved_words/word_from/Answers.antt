@@ -1,6 +1,6 @@
 use Rattle.std.proofs.Common.{refl, ap, ◌∷◌, ◌∙◌, codes}
 use Rattle.sj_lexer.proofs.Tables.{longer_or, word_at, word_begins}
-use Rattle.sj_lexer.proofs.words.word_from.Goals as goal
+use Rattle.sj_lexer.proofs.reserved_words.word_from.Goals as goal
 
 pub returns-in-97 : goal.returns-in-97
 returns-in-97 c =
