@@ -107,10 +107,15 @@ fn programs_break_at_each_token(rt: HostRuntime) -> Result<(), Fail> {
 #[test]
 fn ports_break_at_each_token(rt: HostRuntime) -> Result<(), Fail> {
     let alloc = rt.alloc();
-    let table: [(&[u8], &[u8]); 15] = [
+    let table: [(&[u8], &[u8]); 20] = [
         (b"input signal A ;", b"signal channel max combine"),
         (b"output signal A ;", b"emit ; signal ="),
         (b"input int signal A ;", b"halt input channel 1 +"),
+        (b"input boolean signal A ;", b"halt input channel 1 +"),
+        (b"input byte signal A ;", b"halt input channel 1 +"),
+        (b"input short signal A ;", b"halt input channel 1 +"),
+        (b"input char signal A ;", b"halt input channel 1 +"),
+        (b"input long signal A ;", b"halt input channel 1 +"),
         (
             b"output boolean signal A combine & ;",
             b"A output A int & && |",
@@ -236,7 +241,7 @@ fn statements_break_at_each_token(rt: HostRuntime) -> Result<(), Fail> {
 #[test]
 fn expressions_and_tests_break_at_each_token(rt: HostRuntime) -> Result<(), Fail> {
     let alloc = rt.alloc();
-    let table: [(&[u8], &[u8]); 32] = [
+    let table: [(&[u8], &[u8]); 37] = [
         (b"x = + 1 ;", b"# + * * ~"),
         (b"x = - y ;", b"* - ; / !"),
         (b"x = ~ true ;", b"/ ~ = & false"),
@@ -250,6 +255,11 @@ fn expressions_and_tests_break_at_each_token(rt: HostRuntime) -> Result<(), Fail
             b"< - 9223372036854775808L ; -=",
         ),
         (b"x = ( byte ) 'c' ;", b"= ( byte ) 1 ) byte"),
+        (b"x = ( short ) 'c' ;", b"= ( short ) 1 ) short"),
+        (b"x = ( char ) 'c' ;", b"= ( char ) 1 ) char"),
+        (b"x = ( int ) 'c' ;", b"= ( int ) 1 ) int"),
+        (b"x = ( long ) 'c' ;", b"= ( long ) 1 ) long"),
+        (b"x = ( boolean ) 'c' ;", b"= ( boolean ) 1 ) boolean"),
         (b"x = ( y ) ;", b") ) channel ; 1 )"),
         (b"x = # S ;", b"2147483648 # ; # #"),
         (b"x = a || b ;", b"|| || || = || |="),
