@@ -1,7 +1,7 @@
 pub mod FormLayers
 pub mod FittingForms
 pub mod TypedTraps
-pub mod FittingCombinations
+pub mod TypedSignals
 pub mod CheckParts
 pub mod TypedExpressions
 pub mod LiteralLemmas

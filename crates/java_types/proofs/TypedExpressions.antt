@@ -25,7 +25,7 @@ use Rattle.sj_ast.specs.declared.expression.Raw.TheOpen.{Raw-F}
 use Rattle.sj_ast.specs.declared.expression.Raw.TheFolds.{fold-roll-Raw, ind-Raw}
 use Rattle.sj_names.specs.declared.entry.TableEntry.{TableEntry}
 use Rattle.sj_names.specs.declared.entry.TableEntry.TheVariants as entry
-use Rattle.sj_names.specs.definitions.FittingTrees.{is_entry, fits_raw_layer, uses_entries}
+use Rattle.sj_names.specs.definitions.FittingTrees.{is_named, has_status, fits_raw_layer, uses_entries}
 use Rattle.java_types.specs.declared.operand.Spelling.{Spelling}
 use Rattle.java_types.specs.declared.operand.Spelling.TheVariants as spelling
 use Rattle.java_types.specs.declared.operand.Operand.{Operand}
@@ -318,14 +318,19 @@ module _ (t : Tables) (scope : Scope) where
       made_keeps k (expr_form.Signal n) (SignalValue k n) (of_signal k n) refl
       (both_true (can_use t scope n) (is_of_kind (signal_at t n).kind k) h (ap (λ l. is_of_kind l k) i ∙ is_itself k)) refl
 
-  name_keeps : (first name_at : ℕ) (n : TableEntry) (o : Operand) → is_entry t scope n ≡ true → Gives (value_of_name first name_at (entry_expression t n)) o → KeepsAsSpelled o
-  name_keeps first at (entry.Signal n) o h g = split (signal_at t n).kind refl g
+  status_keeps : (first name_at : ℕ) (n : TableEntry) (o : Operand) → has_status t scope n ≡ true → Gives (value_of_name first name_at (entry_expression t n)) o → KeepsAsSpelled o
+  status_keeps first at (entry.Signal n) o h g = split (signal_at t n).kind refl g
     where
       split : (k : Option Kind) → (signal_at t n).kind ≡ k → Gives (value_of_name first at (option_map (λ k. expr_of k (expr_form.Signal n)) k)) o → KeepsAsSpelled o
       split None e i = absurd (none_wrong (failure.Mismatch at) o i)
       split (Some k) e i = subst KeepsAsSpelled (sym (given_fine (written first spelling.Other (expr_of k (expr_form.Signal n))) o i)) (made_other first (expr_of k (expr_form.Signal n)) (signal_keeps n k h e))
-  name_keeps first at (entry.Channel n) o h g =
+  status_keeps first at (entry.Variable n) o h g = absurd (cc)
+  status_keeps first at (entry.Channel n) o h g =
       subst KeepsAsSpelled (sym (given_fine (written first spelling.Other (expr_of (channel_at t n).kind (expr_form.Channel n))) o g)) (made_other first (expr_of (channel_at t n).kind (expr_form.Channel n)) (channel_keeps n h))
+
+  name_keeps : (first name_at : ℕ) (n : TableEntry) (o : Operand) → is_named t scope n ≡ true → Gives (value_of_name first name_at (entry_expression t n)) o → KeepsAsSpelled o
+  name_keeps first at (entry.Signal n) o h g = absurd (cc)
+  name_keeps first at (entry.Channel n) o h g = absurd (cc)
   name_keeps first at (entry.Variable n) o h g =
       subst KeepsAsSpelled (sym (given_fine (written first spelling.Other (variable_of (variable_at t n).kind n)) o g)) (made_other first (variable_of (variable_at t n).kind n) (variable_keeps n h))
 
@@ -420,7 +425,7 @@ module _ (t : Tables) (scope : Scope) where
   step (Raw-F.Least at v) o h g =
       subst KeepsAsSpelled (sym (given_fine (literal at (literal_value v) (spelling.Least (literal_value v))) o g)) (record { keeps = literal_keeps v; spelled = of_literal v.kind (literal_value v).number })
   step (Raw-F.Variable at n) o h g = name_keeps at at n o h g
-  step (Raw-F.Status at name_at n) o h g = name_keeps at name_at n o h g
+  step (Raw-F.Status at name_at n) o h g = status_keeps at name_at n o h g
   step (Raw-F.Unary at op e) o h g =
       let made = given_then (checked_expression t e.0) (unary at op) o g in unary_keeps at op made.part o (e.1 made.part h made.first) made.second
   step (Raw-F.Cast at k e) o h g =

@@ -18,7 +18,7 @@ mod trees;
 mod typing;
 
 pub use failure::{TypeError, TypeFailure};
-pub use laws::{fitting_combinations, fitting_kinds};
+pub use laws::{declared_signals, fitting_combinations, fitting_kinds};
 pub use rows::{small_conversions, small_operators, small_signals};
 pub use trees::Typed;
 pub use typing::typed;

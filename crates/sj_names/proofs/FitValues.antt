@@ -33,7 +33,7 @@ use Rattle.sj_names.specs.definitions.Mentions.{mention, raw_layer, expression_m
 use Rattle.sj_names.specs.definitions.Failures.{is_channel, is_variable, is_trap, is_input}
 use Rattle.sj_names.specs.definitions.SoundTables.{is_port_of, is_signal_use, is_sound_use, is_sound_role, is_sound}
 use Rattle.sj_names.specs.definitions.NumberedTrees.{NumberedExpression, NumberedTest, number_where, number_of, entry_where, entry_of_sort, status_entry, numbered_raw_layer, numbered_expression, numbered_test_layer, numbered_test, numbered_value}
-use Rattle.sj_names.specs.definitions.FittingTrees.{Around, term_scope, fits_test_layer, fits_test, is_entry, fits_raw_layer, uses_entries, value_uses_entries}
+use Rattle.sj_names.specs.definitions.FittingTrees.{Around, term_scope, fits_test_layer, fits_test, has_status, fits_raw_layer, uses_entries, value_uses_entries}
 use Rattle.sj_names.proofs.EntryLemmas.{AllNamed, meaning_named}
 use Rattle.sj_names.proofs.PartEntries.{pair_true}
 
@@ -140,7 +140,7 @@ module _ (t : Tables) (d : ℕ) where
   exit_where a None c h v = absurd (cc)
   exit_where a (Some m) c h v = trap_of_sort a m.sort m.number h (v m refl)
 
-  status_of_sort : (a : Around) (s : NameSort) (n : ℕ) → a.domain ≡ d → is_sound_use t d role.Status (record { sort = s; number = n }) ≡ true → StandsAround a s n → is_entry t (term_scope a) (entry_of_sort s n) ≡ true
+  status_of_sort : (a : Around) (s : NameSort) (n : ℕ) → a.domain ≡ d → is_sound_use t d role.Status (record { sort = s; number = n }) ≡ true → StandsAround a s n → has_status t (term_scope a) (entry_of_sort s n) ≡ true
   status_of_sort a sort.Channel n e h v = ap (λ k. is_receiver_of t k n) e ∙ h
   status_of_sort a sort.Input n e h v = usable a sort.Input n e h v
   status_of_sort a sort.Output n e h v = usable a sort.Output n e h v
@@ -148,7 +148,7 @@ module _ (t : Tables) (d : ℕ) where
   status_of_sort a sort.Variable n e h v = absurd (cc)
   status_of_sort a sort.Trap n e h v = absurd (cc)
 
-  status_where : (a : Around) (o : Option Meaning) (c : Counts) → a.domain ≡ d → is_sound_role t d role.Status o ≡ true → KeptAround a o → is_entry t (term_scope a) (entry_where o (number_where role.Status o c)) ≡ true
+  status_where : (a : Around) (o : Option Meaning) (c : Counts) → a.domain ≡ d → is_sound_role t d role.Status o ≡ true → KeptAround a o → has_status t (term_scope a) (entry_where o (number_where role.Status o c)) ≡ true
   status_where a None c e h v = absurd (cc)
   status_where a (Some m) c e h v = status_of_sort a m.sort m.number e h (v m refl)
 
@@ -207,7 +207,7 @@ module _ (t : Tables) (d : ℕ) where
       (λ s a. ap (uses a) (numbers_of (Raw-F.Variable at name) s ∙ sym (raw_is.rolls-Variable at (entry.Variable (number_of role.Variable name s)))) ∙ uses_of (Raw-F.Variable at (entry.Variable (number_of role.Variable name s))) a)
       (λ s a e v h. variable_fits a name s e (one_holds (is_sound t d) (mention role.Variable name s) [] h))
   raw_step (Raw-F.Status at name_at name) =
-      raw_by (Raw-F.Status at name_at name) (λ s. mention role.Status name s ∷ []) (λ s a. is_entry t (term_scope a) (status_entry name s)) (mentions_of (Raw-F.Status at name_at name))
+      raw_by (Raw-F.Status at name_at name) (λ s. mention role.Status name s ∷ []) (λ s a. has_status t (term_scope a) (status_entry name s)) (mentions_of (Raw-F.Status at name_at name))
       (λ s a. ap (uses a) (numbers_of (Raw-F.Status at name_at name) s ∙ sym (raw_is.rolls-Status at name_at (status_entry name s))) ∙ uses_of (Raw-F.Status at name_at (status_entry name s)) a)
       (λ s a e v h. status_where a (meaning_in s.visible name.text) s.counts e (one_holds (is_sound t d) (mention role.Status name s) [] h) (kept_around a name s v))
   raw_step (Raw-F.Unary at op x) =

@@ -22,3 +22,4 @@ pub mod FitTrees
 pub mod TrapLemmas
 pub mod FitRowLemmas
 pub mod BindLemmas
+pub mod DeclaredSignalLemmas

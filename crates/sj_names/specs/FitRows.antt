@@ -1,5 +1,5 @@
 -- Small tables, and parts of trees with their numbers.
-use Rattle.std.specs.Prelude.{ℕ, Bool, true, List, [], ◌∷◌, Option, Some, None, codes}
+use Rattle.std.specs.Prelude.{ℕ, Bool, true, false, List, [], ◌∷◌, Option, Some, None, codes}
 use Rattle.java_values.specs.declared.kind.Kind.{Kind}
 use Rattle.java_values.specs.declared.kind.Kind.TheVariants.{Int}
 use Rattle.java_values.specs.declared.op.Op2.TheVariants.{Add}
@@ -36,7 +36,11 @@ fits_where_given None = true
 fits_where_given (Some b) = b
 
 abbrev pub judged : ValueRules Bool
-judged = record { emitted = λ scope k value. fits_where_given value; given = λ scope k e. e }
+judged = record {
+  emitted = λ scope k value. fits_where_given value;
+  given = λ scope k e. e;
+  updated = true;
+}
 
 abbrev pub a_form : Form-F ℕ Bool FittingPart FittingPart FittingPart → FittingPart
 a_form = fits_form_layer small judged
@@ -79,6 +83,11 @@ assigns x value = a_form (Form-F.Assign 0 x value)
 
 abbrev pub updates : ℕ → Bool → FittingPart
 updates x value = a_form (Form-F.Update 0 x 0 Add value)
+
+-- where compound assignments are written out
+abbrev pub updates_written_out : ℕ → Bool → FittingPart
+updates_written_out x value =
+    fits_form_layer small (record judged { updated = false }) (Form-F.Update 0 x 0 Add value)
 
 abbrev pub sends : ℕ → Bool → FittingPart
 sends c value = a_form (Form-F.Send 0 c value)

@@ -8,3 +8,4 @@ pub mod SoundTables
 pub mod FittingTrees
 pub mod ReadNames
 pub mod NestedTraps
+pub mod DeclaredSignals

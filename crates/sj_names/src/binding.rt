@@ -1,5 +1,6 @@
 ghost use Rattle.std.specs.Prelude.{◌≡◌, ◌≤◌, true, length};
 ghost use Rattle.kernel_terms.specs.Limits.{most_traps};
+ghost use Rattle.sj_names.specs.definitions.DeclaredSignals.{AreDeclared};
 ghost use Rattle.sj_names.specs.definitions.FittingTrees.{fits_tree, entry_rules};
 ghost use Rattle.sj_names.specs.definitions.NestedTraps.{traps_nest};
 ghost use Rattle.sj_names.specs.definitions.SoundTables.{AreSoundTables};
@@ -13,7 +14,7 @@ use thiserror::Error;
 
 /// A tree with numbers in place of names, in expressions with entries, and the tables of them. Each number names an entry
 /// of the tables that may be used where it stands. The tables keep what is asked of names, limits and entries, there is a
-/// domain, and traps nest at most 64 deep.
+/// domain, and traps nest at most 64 deep. Each signal of the tables is one that the tree declares, in order.
 #[derive(Debug, Drop)]
 pub struct Bound {
     pub tree: Tree<u32, Raw<TableEntry>>,
@@ -22,6 +23,7 @@ pub struct Bound {
     ghost sound: { AreSoundTables tables (length tree.domains) },
     ghost some: { 1 ≤ length tree.domains },
     ghost traps: { traps_nest most_traps tree ≡ true },
+    ghost declared: { AreDeclared tables tree },
 }
 
 /// Why a tree isn't bound.

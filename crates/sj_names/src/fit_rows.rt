@@ -9,7 +9,7 @@ ghost use Rattle.sj_ast.specs.declared.test.Test.TheOpen.{Test-F};
 ghost use Rattle.sj_ast.specs.declared.statement.Form.TheOpen.{Form-F};
 ghost use Rattle.sj_names.specs.declared.entry.TableEntry.TheVariants as entry;
 ghost use Rattle.sj_names.specs.definitions.FittingTrees.{term_scope, at_start, fits_tree, entry_rules};
-ghost use Rattle.sj_names.specs.FitRows.{small, judged, a_form, in_block, fits_in, exits, in_trap_of, declares, declares_valued, emits, sustains, new_variable, assigns, updates, sends, receives, of_signal, wrong, fine, status_fits, name_fits, tests_as, reads_as, of_variable, emitting, tree_of};
+ghost use Rattle.sj_names.specs.FitRows.{small, judged, a_form, in_block, fits_in, exits, in_trap_of, declares, declares_valued, emits, sustains, new_variable, assigns, updates, updates_written_out, sends, receives, of_signal, wrong, fine, status_fits, name_fits, tests_as, reads_as, of_variable, emitting, tree_of};
 
 /// Which exits, and which uses and declarations of signals, fit where they stand.
 pub fn small_exits_and_signals()
@@ -50,6 +50,7 @@ pub fn small_values_and_channels()
     ensures updated { fits_in 0 (updates 0 true) ≡ true }
     ensures updated_in_another_domain { fits_in 1 (updates 0 true) ≡ false }
     ensures updated_by { fits_in 0 (updates 0 false) ≡ false }
+    ensures written_out { fits_in 0 (updates_written_out 0 true) ≡ false }
     ensures new { fits_in 0 (new_variable kind.Int 0 true) ≡ true }
     ensures new_of_another_kind { fits_in 0 (new_variable kind.Byte 0 true) ≡ false }
     ensures new_in_another_domain { fits_in 1 (new_variable kind.Int 0 true) ≡ false }
@@ -67,7 +68,10 @@ pub fn small_values_and_channels()
     ensures status_of_a_signal { status_fits 0 (entry.Signal 1) ≡ true }
     ensures status_of_a_signal_elsewhere { status_fits 1 (entry.Signal 1) ≡ false }
     ensures name_of_a_variable { name_fits 0 (entry.Variable 0) ≡ true }
+    ensures status_of_a_variable { status_fits 0 (entry.Variable 0) ≡ false }
     ensures name_of_a_variable_elsewhere { name_fits 1 (entry.Variable 0) ≡ false }
+    ensures name_of_a_signal { name_fits 0 (entry.Signal 1) ≡ false }
+    ensures name_of_a_channel { name_fits 1 (entry.Channel 0) ≡ false }
 {}
 
 /// A test or an expression doesn't fit where a part of it doesn't.

@@ -7,6 +7,7 @@ ghost use Rattle.kernel_terms.specs.Limits.{most_traps};
 ghost use Rattle.kernel_terms.specs.WellFormed.{has_names, is_within_limits, interface_comes_first, is_channel_entry, is_variable_entry};
 ghost use Rattle.sj_names.specs.definitions.Mentions.{names_of_tree};
 ghost use Rattle.sj_names.specs.definitions.Failures.{failures_of};
+ghost use Rattle.sj_names.specs.definitions.DeclaredSignals.{AreDeclared};
 ghost use Rattle.sj_names.specs.definitions.DeclaredTables.{tables_of_tree};
 ghost use Rattle.sj_names.specs.definitions.SoundTables.{AreSoundTables, port_name, has_domain, are_sound};
 ghost use Rattle.sj_names.specs.definitions.NestedTraps.{traps_nest};
@@ -61,6 +62,7 @@ pub fn numbered_trees_are_sound(tree: &Tree<Name, Raw<Name>>)
         (length (numbered_tree tree.now).domains) }
     ensures some { 1 ≤ length (numbered_tree tree.now).domains }
     ensures traps { traps_nest most_traps (numbered_tree tree.now) ≡ true }
+    ensures declared { AreDeclared (tables_of_tree tree.now) (numbered_tree tree.now) }
 {
     sound_tables(tree);
     sound_interface(tree);
@@ -71,10 +73,11 @@ pub fn bound_trees_fit(bound: &Bound)
     ensures { fits_tree bound.now.tables (entry_rules bound.now.tables) bound.now.tree ≡ true }
 {}
 
-/// The tables of a bound tree keep what is asked of names, limits and entries. It has a domain, and its traps nest at
-/// most 64 deep.
+/// The tables of a bound tree keep what is asked of names, limits and entries. It has a domain, its traps nest at most
+/// 64 deep, and it declares the signals of the tables, in order.
 pub fn bound_trees_are_sound(bound: &Bound)
     ensures tables { AreSoundTables bound.now.tables (length bound.now.tree.domains) }
     ensures some { 1 ≤ length bound.now.tree.domains }
     ensures traps { traps_nest most_traps bound.now.tree ≡ true }
+    ensures declared { AreDeclared bound.now.tables bound.now.tree }
 {}

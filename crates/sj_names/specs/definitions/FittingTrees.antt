@@ -43,10 +43,11 @@ abbrev pub at_start : ℕ → Around
 at_start d = record { domain = d; traps = []; locals = [] }
 
 -- What is asked of a value: of one that is emitted, for a signal of this kind or a pure one, and of one that is given to a
--- kind.
+-- kind; and whether compound assignments may stand in the tree.
 pub record ValueRules (E : Type 0) : Type 0 where
   pub emitted : terms.Scope → Option Kind → Option E → Bool
   pub given : terms.Scope → Kind → E → Bool
+  pub updated : Bool
 
 -- whether a part fits, and what is around the part behind it
 pub record Fitted : Type 0 where
@@ -115,8 +116,9 @@ module _ (t : Tables) {E : Type 0} (rules : ValueRules E) where
       alone (is_variable_of t a.domain x &&
       rules.given (term_scope a) (variable_at t x).kind value) a
   fits_form_layer (Form-F.Update at x sign_at op value) a =
-      alone (is_variable_of t a.domain x &&
-      rules.given (term_scope a) (variable_at t x).kind value) a
+      alone (rules.updated &&
+      (is_variable_of t a.domain x &&
+      rules.given (term_scope a) (variable_at t x).kind value)) a
   fits_form_layer (Form-F.If cond first other) a =
       alone (rules.given (term_scope a) kind.Boolean cond &&
       ((first a).fits && other_fits other a)) a
@@ -167,18 +169,24 @@ module _ (t : Tables) {E : Type 0} (rules : ValueRules E) where
   abbrev pub fits_tree : Tree ℕ E → Bool
   fits_tree tree = fit_domains 0 tree.domains
 
--- Of an expression with entries it is asked that it may use each of them, whatever it is given to.
+-- Of an expression with entries it is asked that it may use each of them, whatever it is given to. A plain name is that of
+-- a variable.
+abbrev pub is_named : Tables → terms.Scope → TableEntry → Bool
+is_named t scope (entry.Signal s) = false
+is_named t scope (entry.Channel c) = false
+is_named t scope (entry.Variable x) = is_variable_of t scope.domain x
 
-abbrev pub is_entry : Tables → terms.Scope → TableEntry → Bool
-is_entry t scope (entry.Signal s) = can_use t scope s
-is_entry t scope (entry.Channel c) = is_receiver_of t scope.domain c
-is_entry t scope (entry.Variable x) = is_variable_of t scope.domain x
+-- a `#` reads a signal or a channel
+abbrev pub has_status : Tables → terms.Scope → TableEntry → Bool
+has_status t scope (entry.Signal s) = can_use t scope s
+has_status t scope (entry.Channel c) = is_receiver_of t scope.domain c
+has_status t scope (entry.Variable x) = false
 
 abbrev pub fits_raw_layer : Tables → terms.Scope → Raw-F TableEntry Bool → Bool
 fits_raw_layer t scope (Raw-F.Literal at v) = true
 fits_raw_layer t scope (Raw-F.Least at v) = true
-fits_raw_layer t scope (Raw-F.Variable at n) = is_entry t scope n
-fits_raw_layer t scope (Raw-F.Status at name_at n) = is_entry t scope n
+fits_raw_layer t scope (Raw-F.Variable at n) = is_named t scope n
+fits_raw_layer t scope (Raw-F.Status at name_at n) = has_status t scope n
 fits_raw_layer t scope (Raw-F.Unary at op e) = e
 fits_raw_layer t scope (Raw-F.Cast at k e) = e
 fits_raw_layer t scope (Raw-F.Group at e) = e
@@ -196,4 +204,5 @@ entry_rules t =
     record {
       emitted = λ scope k value. value_uses_entries t scope value;
       given = λ scope k e. uses_entries t scope e;
+      updated = true;
     }

@@ -75,3 +75,15 @@ returns-clause-name_of_a_variable c = refl
 
 pub returns-clause-name_of_a_variable_elsewhere : goal.returns-clause-name_of_a_variable_elsewhere
 returns-clause-name_of_a_variable_elsewhere c = refl
+
+pub returns-clause-written_out : goal.returns-clause-written_out
+returns-clause-written_out c = refl
+
+pub returns-clause-status_of_a_variable : goal.returns-clause-status_of_a_variable
+returns-clause-status_of_a_variable c = refl
+
+pub returns-clause-name_of_a_signal : goal.returns-clause-name_of_a_signal
+returns-clause-name_of_a_signal c = refl
+
+pub returns-clause-name_of_a_channel : goal.returns-clause-name_of_a_channel
+returns-clause-name_of_a_channel c = refl

@@ -2,6 +2,7 @@ use Rattle.std.proofs.Common.{◌≤◌, ◌∙◌, sym, subst}
 use Rattle.kernel_terms.specs.Limits.{most_traps}
 use Rattle.sj_names.specs.definitions.DeclaredTables.{tables_of_tree}
 use Rattle.sj_names.specs.definitions.SoundTables.{AreSoundTables}
+use Rattle.sj_names.proofs.DeclaredSignalLemmas.{tables_are_declared}
 use Rattle.sj_names.proofs.TrapLemmas.{as_many_domains, traps_as_deep}
 use Rattle.sj_names.proofs.sound.numbered_trees_are_sound.Goals as goal
 
@@ -21,3 +22,6 @@ returns-clause-some c = subst (λ n. 1 ≤ n) (sym (as_many_domains c.args.tree.
 
 pub returns-clause-traps : goal.returns-clause-traps
 returns-clause-traps c = traps_as_deep most_traps c.args.tree.now ∙ c.requires.traps
+
+pub returns-clause-declared : goal.returns-clause-declared
+returns-clause-declared c = tables_are_declared c.args.tree.now
