@@ -222,6 +222,25 @@ fn values_for_a_channel(rt: HostRuntime) -> Result<(), Fail> {
     Ok(())
 }
 
+// A value that is too wide for a signal of a block is wrong, and the widest that fits isn't.
+#[test]
+fn values_for_a_local_signal(rt: HostRuntime) -> Result<(), Fail> {
+    let fine = b"system{interface{}{byte signal L;emit L(127);}}";
+    assert_eq!(rt; outcome_of(rt.alloc(), fine)?, Outcome::Typed);
+    let cast = b"system{interface{}{int x=0;byte signal L;emit L((byte)x);}}";
+    assert_eq!(rt; outcome_of(rt.alloc(), cast)?, Outcome::Typed);
+    let cases: [(&[u8], u32); 3] = [
+        (b"system{interface{}{byte signal L;emit L(128);}}", 40),
+        (b"system{interface{}{int x=0;byte signal L;emit L(x);}}", 48),
+        (b"system{interface{}{int signal L;emit L(5L);}}", 39),
+    ];
+    for (source, place) in cases {
+        let failed = Outcome::Failed(TypeFailure::Mismatch(place));
+        assert_eq!(rt; outcome_of(rt.alloc(), source)?, failed);
+    }
+    Ok(())
+}
+
 #[test]
 fn combinations_of_the_interface(rt: HostRuntime) -> Result<(), Fail> {
     let fine =

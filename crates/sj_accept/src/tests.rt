@@ -202,14 +202,137 @@ fn tells_the_first_kind_at_one_place(rt: HostRuntime) -> Result<(), Fail> {
     Ok(())
 }
 
-// A name declared twice stands before one that isn't declared.
+// The failure at the least place is told, of whatever kind it is.
 #[test]
-fn tells_a_declaration_before_an_unknown_name(rt: HostRuntime) -> Result<(), Fail> {
-    let source = b"system{interface{}{signal A;signal A;emit B;}}";
-    assert_eq!(rt;
-        refusal_of(rt.alloc(), source)?,
-        failure(FailureKind::Twice, 35)
-    );
+fn tells_the_failure_at_the_least_place(rt: HostRuntime) -> Result<(), Fail> {
+    let cases: [(&[u8], FailureKind, u32); 6] = [
+        (
+            b"system{interface{}{signal A;signal A;emit B;}}",
+            FailureKind::Twice,
+            35,
+        ),
+        (
+            b"system{interface{}{emit B;signal A;signal A;}}",
+            FailureKind::Unknown,
+            24,
+        ),
+        (
+            b"system{interface{output signal A;output signal A;}{emit B;}}",
+            FailureKind::Twice,
+            47,
+        ),
+        (
+            b"system{interface{int channel C;}{emit B;}><{send C(1);}}",
+            FailureKind::ChannelEnds,
+            29,
+        ),
+        (
+            b"system{interface{int channel C;}{send C(1);}><{int x=#C;emit B;}}",
+            FailureKind::ChannelEnds,
+            29,
+        ),
+        (
+            b"system{interface{output signal A;}{emit A;}><{emit A;emit B;}}",
+            FailureKind::SignalShared,
+            51,
+        ),
+    ];
+    for (source, fault, at) in cases {
+        assert_eq!(rt; refusal_of(rt.alloc(), source)?, failure(fault, at));
+    }
+    Ok(())
+}
+
+// A signal is visible behind its declaration, up to the end of its block.
+// There its name may not be declared again.
+#[test]
+fn looks_at_local_signals(rt: HostRuntime) -> Result<(), Fail> {
+    let cases: [(&[u8], FailureKind, u32); 9] = [
+        (
+            b"system{interface{}{signal L;signal L;}}",
+            FailureKind::Twice,
+            35,
+        ),
+        (
+            b"system{interface{}{signal L;{signal L;}}}",
+            FailureKind::Twice,
+            36,
+        ),
+        (
+            b"system{interface{}{signal L;{emit L;{signal L;}}}}",
+            FailureKind::Twice,
+            44,
+        ),
+        (
+            b"system{interface{}{signal L;{pause;}||{signal L;}}}",
+            FailureKind::Twice,
+            46,
+        ),
+        (
+            b"system{interface{}{emit L;signal L;}}",
+            FailureKind::Unknown,
+            24,
+        ),
+        (
+            b"system{interface{}{{emit L;}signal L;}}",
+            FailureKind::Unknown,
+            25,
+        ),
+        (
+            b"system{interface{}{{signal L;}emit L;}}",
+            FailureKind::Unknown,
+            35,
+        ),
+        (
+            b"system{interface{}{{signal L;emit L;}emit L;}}",
+            FailureKind::Unknown,
+            42,
+        ),
+        (
+            b"system{interface{}{if(true){signal L;}emit L;}}",
+            FailureKind::Unknown,
+            43,
+        ),
+    ];
+    for (source, fault, at) in cases {
+        assert_eq!(rt; refusal_of(rt.alloc(), source)?, failure(fault, at));
+    }
+    Ok(())
+}
+
+// Blocks beside each other may declare one name; their names are right, and the form isn't built.
+#[test]
+fn scopes_that_ended_give_names_back(rt: HostRuntime) -> Result<(), Fail> {
+    let sources: [&[u8]; 3] = [
+        b"system{interface{}{{signal L;}{signal L;}}}",
+        b"system{interface{}{{signal L;}signal L;}}",
+        b"system{interface{}{{signal L;}||{signal L;}}}",
+    ];
+    for source in sources {
+        assert_eq!(rt; refusal_of(rt.alloc(), source)?, Some(Refusal::Later));
+    }
+    Ok(())
+}
+
+// A status of a channel receives on it, so that its sender may not read it.
+#[test]
+fn a_sender_reads_no_status_of_its_channel(rt: HostRuntime) -> Result<(), Fail> {
+    let cases: [(&[u8], u32); 2] = [
+        (
+            b"system{interface{int channel C;}{send C(#C);}><{receive C;}}",
+            41,
+        ),
+        (
+            b"system{interface{int channel C;}{send C(1);}><{receive C;send C(#C);}}",
+            62,
+        ),
+    ];
+    for (source, at) in cases {
+        assert_eq!(rt;
+            refusal_of(rt.alloc(), source)?,
+            failure(FailureKind::ChannelEnds, at)
+        );
+    }
     Ok(())
 }
 
