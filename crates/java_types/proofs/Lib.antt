@@ -3,6 +3,7 @@ pub mod FittingForms
 pub mod TypedTraps
 pub mod TypedSignals
 pub mod CheckParts
+pub mod NodeLemmas
 pub mod TypedExpressions
 pub mod LiteralLemmas
 pub mod EntryLemmas
@@ -10,3 +11,4 @@ pub mod CheckLemmas
 pub mod ListLemmas
 pub mod ExpressionLemmas
 pub mod FormLemmas
+pub mod SmallTreeLemmas

@@ -31,7 +31,7 @@ use Rattle.java_types.specs.declared.operand.Spelling.TheVariants as spelling
 use Rattle.java_types.specs.declared.operand.Operand.{Operand}
 use Rattle.java_types.specs.declared.failure.TypeFailure.TheVariants as failure
 use Rattle.java_types.specs.definitions.Checks.{Checked, fine, wrong, map2}
-use Rattle.java_types.specs.definitions.Spellings.{grouped, negated, unary_spelling, is_number_kind, is_zero, is_divisor, may_narrow, is_given_to}
+use Rattle.java_types.specs.definitions.Spellings.{grouped, negated, unary_spelling, is_number_kind, is_zero, spells_divisor, may_narrow, is_given_to}
 use Rattle.java_types.specs.definitions.Operands.{expr_of, kind_of, written, entry_expression, value_of_name, literal, literal_value, with_kind1, unary, cast, in_parentheses, divides, with_divisor, with_kind2, binary, operands, binary_operand, checked_layer, checked_expression}
 use Rattle.java_types.specs.definitions.Conversions.{converted, given, condition, cast_back, variable_of, updated}
 use Rattle.java_types.specs.definitions.TypedTrees.{value_for, condition_of, update_of}
@@ -171,7 +171,7 @@ number_divides Byte n b e h = absurd (cc)
 number_divides Short n b e h = absurd (cc)
 number_divides Char n b e h = absurd (cc)
 
-spelled_divisor : (s : Spelling) (e : Expression) → IsSpelled s e → is_divisor s ≡ true → divisors.is_divisor e ≡ true
+spelled_divisor : (s : Spelling) (e : Expression) → IsSpelled s e → spells_divisor s ≡ true → divisors.is_divisor e ≡ true
 spelled_divisor (spelling.Literal v) e h d = ap divisors.is_divisor h ∙ d
 spelled_divisor (spelling.Grouped v) e h d = ap divisors.is_divisor h ∙ d
 spelled_divisor (spelling.Minus v) e h d = ap divisors.is_divisor h.is ∙ number_divides v.kind v.number (not (is_zero v)) refl d
@@ -371,7 +371,7 @@ module _ (t : Tables) (scope : Scope) where
   divided : (op : Op2) (r : Operand) (e x : expr.Expr) → KeepsAsSpelled r → Gives (with_divisor (divides op) r e) x → Divided op r e x
   divided op r e x g h = split (divides op) refl h
     where
-      test : (b : Bool) → is_divisor r.spelling ≡ b → Gives (cond b (fine e) (record { value = Some e; failures = failure.Divisor r.first ∷ [] })) x → Divided op r e x
+      test : (b : Bool) → spells_divisor r.spelling ≡ b → Gives (cond b (fine e) (record { value = Some e; failures = failure.Divisor r.first ∷ [] })) x → Divided op r e x
       test true i j = record { is = given_fine e x j; allowed = allowed_if op (expression r.expr) (λ d. spelled_divisor r.spelling (expression r.expr) g.spelled i) }
       test false i j = absurd (let f = j.failures in cc)
 
@@ -380,7 +380,7 @@ module _ (t : Tables) (scope : Scope) where
 
       split : (b : Bool) → divides op ≡ b → Gives (with_divisor b r e) x → Divided op r e x
       split false i j = record { is = given_fine e x j; allowed = allowed_if op (expression r.expr) (no_divisor i) }
-      split true i j = test (is_divisor r.spelling) refl j
+      split true i j = test (spells_divisor r.spelling) refl j
 
   binary_made : (op : Op2) (l : expr.Expr) (r : Operand) (k : Kind) → Keeps l → KeepsAsSpelled r → result_kind2 op (kind_of l) (kind_of r.expr) ≡ Some k → is_allowed op (expression r.expr) ≡ true → Keeps (expr_of k (expr_form.Binary op l r.expr))
   binary_made op l r k g h i d =

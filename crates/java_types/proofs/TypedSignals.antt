@@ -1,5 +1,5 @@
 -- A tree with kinds declares the signals of the tree that it is typed from, and their combinations fit their kinds.
-use Rattle.std.proofs.Common.{◌≡◌, ℕ, Bool, true, ◌&&◌, List, [], ◌∷◌, ◌++◌, map, Option, Some, None, ap, refl, sym, ◌∙◌, subst}
+use Rattle.std.proofs.Common.{◌≡◌, ℕ, suc, Bool, true, ◌&&◌, List, [], ◌∷◌, ◌++◌, map, Option, Some, None, ap, refl, sym, ◌∙◌, subst}
 use Rattle.std.specs.List.{flat_map, list_all}
 use Rattle.std.proofs.lemmas.List.Folds.{list_all-append}
 use Rattle.java_values.specs.declared.kind.Kind.{Kind}
@@ -10,6 +10,7 @@ use Rattle.sj_ast.specs.declared.port.CombineOperator.{CombineOperator}
 use Rattle.sj_ast.specs.declared.port.CombineOperator.TheVariants as operator
 use Rattle.sj_ast.specs.declared.port.Combination.{Combination}
 use Rattle.sj_ast.specs.declared.port.Valued.{Valued}
+use Rattle.sj_ast.specs.declared.port.Signal.{Signal}
 use Rattle.sj_ast.specs.declared.port.Port.{Port}
 use Rattle.sj_ast.specs.declared.port.Port.TheVariants as port
 use Rattle.kernel_terms.specs.declared.expr.Expr.{Expr}
@@ -25,7 +26,7 @@ use Rattle.sj_ast.specs.declared.statement.Form.TheVariants.{rolls-Abort, rolls-
 use Rattle.sj_ast.specs.declared.statement.Tree.{Tree}
 use Rattle.sj_names.specs.declared.entry.TableEntry.{TableEntry}
 use Rattle.sj_names.specs.definitions.DeclaredTables.{operator_of, combination_of, kind_of, combine_of}
-use Rattle.sj_names.specs.definitions.DeclaredSignals.{SignalType, declared_type, type_of, one_list, form_signals_layer, block_signals_layer, stmt_signals_layer, signals_of_form, signals_of_block, signals_of_stmt, signals_of_port, signals_of_tree, AreDeclared}
+use Rattle.sj_names.specs.definitions.DeclaredSignals.{DeclaredSignal, declaration_of, listed_from, one_list, form_signals_layer, block_signals_layer, stmt_signals_layer, signals_of_form, signals_of_block, signals_of_stmt, signals_of_port, signals_of_tree, AreDeclared}
 use Rattle.java_types.specs.definitions.Checks.{Checked, fine, map1, map2, all_checked, where_given}
 use Rattle.java_types.specs.definitions.Combinations.{combinations_fit}
 use Rattle.java_types.specs.definitions.TypedTrees.{TypedForm, TypedBlock, TypedStmt, TypedTree, boolean_failures, written_failures, combination_failures, emission_of, value_for, condition_of, update_of, form_layer, block_layer, stmt_layer, block_at, stmt_at, checked_form, checked_block, checked_stmt, port_failures, with_domains, checked_tree}
@@ -67,37 +68,37 @@ valued_fits (Some v) h = written_fits v.kind v.combine h
 
 -- declared signals
 
-abbrev type_fits : SignalType → Bool
-type_fits s = combines s.kind s.combine
+abbrev signal_fits : DeclaredSignal → Bool
+signal_fits s = combines s.kind s.combine
 
-abbrev all_fit : List SignalType → Bool
-all_fit = list_all type_fits
+abbrev all_fit : List DeclaredSignal → Bool
+all_fit = list_all signal_fits
 
 -- the declared signals are these, and their combinations fit their kinds
-record Kept (these declared : List SignalType) : Type 0 where
+record Kept (these declared : List DeclaredSignal) : Type 0 where
   same : declared ≡ these
   fit : all_fit these ≡ true
 
-none_kept : (declared : List SignalType) → declared ≡ [] → Kept [] declared
+none_kept : (declared : List DeclaredSignal) → declared ≡ [] → Kept [] declared
 none_kept declared e = record { same = e; fit = refl }
 
-kept_as : {these : List SignalType} (x y : List SignalType) → y ≡ x → Kept these x → Kept these y
+kept_as : {these : List DeclaredSignal} (x y : List DeclaredSignal) → y ≡ x → Kept these x → Kept these y
 kept_as x y e k = record { same = e ∙ k.same; fit = k.fit }
 
-two_kept : (a b c d : List SignalType) → Kept a c → Kept b d → Kept (a ++ b) (c ++ d)
+two_kept : (a b c d : List DeclaredSignal) → Kept a c → Kept b d → Kept (a ++ b) (c ++ d)
 two_kept a b c d k l = record {
   same = ap (λ x. x ++ d) k.same ∙ ap (λ x. a ++ x) l.same;
-  fit = list_all-append type_fits a b ∙ both_true (all_fit a) (all_fit b) k.fit l.fit;
+  fit = list_all-append signal_fits a b ∙ both_true (all_fit a) (all_fit b) k.fit l.fit;
 }
 
-signal_kept : (v : Option Valued) → combination_failures v ≡ [] → Kept (declared_type v ∷ []) (declared_type v ∷ [])
-signal_kept v h = record { same = refl; fit = both_true (combines (kind_of v) (combine_of v)) true (valued_fits v h) refl }
+signal_kept : (signal : Signal ℕ) → combination_failures signal.valued ≡ [] → Kept (declaration_of signal ∷ []) (declaration_of signal ∷ [])
+signal_kept signal h = record { same = refl; fit = both_true (combines (kind_of signal.valued) (combine_of signal.valued)) true (valued_fits signal.valued h) refl }
 
-abbrev signals : Form-F ℕ Expr TypedForm TypedBlock TypedStmt → List SignalType
-signals z = form_signals_layer (form.map-Form ℕ Expr TypedForm TypedBlock TypedStmt (List SignalType) (List SignalType) (List SignalType) signals_of_form signals_of_block signals_of_stmt z)
+abbrev signals : Form-F ℕ Expr TypedForm TypedBlock TypedStmt → List DeclaredSignal
+signals z = form_signals_layer (form.map-Form ℕ Expr TypedForm TypedBlock TypedStmt (List DeclaredSignal) (List DeclaredSignal) (List DeclaredSignal) signals_of_form signals_of_block signals_of_stmt z)
 
 typed_signals : (z : Form-F ℕ Expr TypedForm TypedBlock TypedStmt) (w v : TypedForm) → v ≡ w → form.roll-Form ℕ Expr z ≡ w → signals_of_form v ≡ signals z
-typed_signals z w v e r = ap signals_of_form (e ∙ sym r) ∙ fold-roll-Form ℕ Expr (List SignalType) (List SignalType) (List SignalType) form_signals_layer block_signals_layer stmt_signals_layer z
+typed_signals z w v e r = ap signals_of_form (e ∙ sym r) ∙ fold-roll-Form ℕ Expr (List DeclaredSignal) (List DeclaredSignal) (List DeclaredSignal) form_signals_layer block_signals_layer stmt_signals_layer z
 
 module _ (t : Tables) where
   abbrev OfForm : SourceForm → Type 0
@@ -139,8 +140,8 @@ module _ (t : Tables) where
   abbrev checks_of : Form-F ℕ (Raw TableEntry) ProvedForm ProvedBlock ProvedStmt → Form-F ℕ (Raw TableEntry) (Checked TypedForm) (Checked TypedBlock) (Checked TypedStmt)
   checks_of = form.map-Form ℕ (Raw TableEntry) ProvedForm ProvedBlock ProvedStmt (Checked TypedForm) (Checked TypedBlock) (Checked TypedStmt) (λ f. checked_form t f.0) (λ b. checked_block t b.0) (λ s. checked_stmt t s.0)
 
-  abbrev signals_of : Form-F ℕ (Raw TableEntry) ProvedForm ProvedBlock ProvedStmt → Form-F ℕ (Raw TableEntry) (List SignalType) (List SignalType) (List SignalType)
-  signals_of = form.map-Form ℕ (Raw TableEntry) ProvedForm ProvedBlock ProvedStmt (List SignalType) (List SignalType) (List SignalType) (λ f. signals_of_form f.0) (λ b. signals_of_block b.0) (λ s. signals_of_stmt s.0)
+  abbrev signals_of : Form-F ℕ (Raw TableEntry) ProvedForm ProvedBlock ProvedStmt → Form-F ℕ (Raw TableEntry) (List DeclaredSignal) (List DeclaredSignal) (List DeclaredSignal)
+  signals_of = form.map-Form ℕ (Raw TableEntry) ProvedForm ProvedBlock ProvedStmt (List DeclaredSignal) (List DeclaredSignal) (List DeclaredSignal) (λ f. signals_of_form f.0) (λ b. signals_of_block b.0) (λ s. signals_of_stmt s.0)
 
   abbrev plain_of : Form-F ℕ (Raw TableEntry) ProvedForm ProvedBlock ProvedStmt → Form-F ℕ (Raw TableEntry) SourceForm SourceBlock SourceStmt
   plain_of = form.map-Form ℕ (Raw TableEntry) ProvedForm ProvedBlock ProvedStmt SourceForm SourceBlock SourceStmt (λ f. f.0) (λ b. b.0) (λ s. s.0)
@@ -156,8 +157,8 @@ module _ (t : Tables) where
   form_step (Form-F.Receive at n) v g = none_kept (signals_of_form v) (typed_signals (Form-F.Receive at n) (form.Receive at n) v (given_fine (form.Receive at n) v g) (rolls-Receive at n))
   form_step (Form-F.Await immediate test) v g = none_kept (signals_of_form v) (typed_signals (Form-F.Await immediate test) (form.Await immediate test) v (given_fine (form.Await immediate test) v g) (rolls-Await immediate test))
   form_step (Form-F.Declare signal) v g =
-      kept_as (declared_type signal.valued ∷ []) (signals_of_form v) (typed_signals (Form-F.Declare signal) (form.Declare signal) v (some_is (form.Declare signal) v g.value) (rolls-Declare signal))
-      (signal_kept signal.valued (first_nil (combination_failures signal.valued) [] g.failures))
+      kept_as (declaration_of signal ∷ []) (signals_of_form v) (typed_signals (Form-F.Declare signal) (form.Declare signal) v (some_is (form.Declare signal) v g.value) (rolls-Declare signal))
+      (signal_kept signal (first_nil (combination_failures signal.valued) [] g.failures))
   form_step (Form-F.Emit at n value) v g =
       let made = given_map (form.Emit at n) (emission_of t at n value) v g in none_kept (signals_of_form v) (typed_signals (Form-F.Emit at n made.part) (form.Emit at n made.part) v made.is (rolls-Emit at n made.part))
   form_step (Form-F.Sustain at n value) v g =
@@ -223,7 +224,7 @@ module _ (t : Tables) where
   form_of y v g =
       let check = fold-roll-Form ℕ (Raw TableEntry) (Checked TypedForm) (Checked TypedBlock) (Checked TypedStmt) (form_layer t) block_layer stmt_layer (plain_of y)
       ∙ ap (form_layer t) (layers_twice (λ (f : ProvedForm). f.0) (λ (b : ProvedBlock). b.0) (λ (s : ProvedStmt). s.0) (checked_form t) (checked_block t) (checked_stmt t) y) in
-      let these = fold-roll-Form ℕ (Raw TableEntry) (List SignalType) (List SignalType) (List SignalType) form_signals_layer block_signals_layer stmt_signals_layer (plain_of y)
+      let these = fold-roll-Form ℕ (Raw TableEntry) (List DeclaredSignal) (List DeclaredSignal) (List DeclaredSignal) form_signals_layer block_signals_layer stmt_signals_layer (plain_of y)
       ∙ ap form_signals_layer (layers_twice (λ (f : ProvedForm). f.0) (λ (b : ProvedBlock). b.0) (λ (s : ProvedStmt). s.0) signals_of_form signals_of_block signals_of_stmt y) in
       subst (λ l. Kept l (signals_of_form v)) (sym these) (form_step y v (subst (λ c. Gives c v) check g))
 
@@ -234,11 +235,11 @@ module _ (t : Tables) where
   block_of y v g =
       let check = fold-roll-Block ℕ (Raw TableEntry) (Checked TypedForm) (Checked TypedBlock) (Checked TypedStmt) (form_layer t) block_layer stmt_layer (plain_block y)
       ∙ ap (λ l. map1 (block_at y.at) (all_checked l)) (map_twice (λ (s : ProvedStmt). s.0) (checked_stmt t) y.statements) in
-      let these = fold-roll-Block ℕ (Raw TableEntry) (List SignalType) (List SignalType) (List SignalType) form_signals_layer block_signals_layer stmt_signals_layer (plain_block y) ∙ ap one_list (map_twice (λ (s : ProvedStmt). s.0) signals_of_stmt y.statements) in
+      let these = fold-roll-Block ℕ (Raw TableEntry) (List DeclaredSignal) (List DeclaredSignal) (List DeclaredSignal) form_signals_layer block_signals_layer stmt_signals_layer (plain_block y) ∙ ap one_list (map_twice (λ (s : ProvedStmt). s.0) signals_of_stmt y.statements) in
       let made = given_map (block_at y.at) (all_checked (map (λ (s : ProvedStmt). checked_stmt t s.0) y.statements)) v (subst (λ c. Gives c v) check g) in
       subst (λ l. Kept l (signals_of_block v)) (sym these)
       (kept_as (one_list (map signals_of_stmt made.part)) (signals_of_block v)
-      (ap signals_of_block made.is ∙ fold-roll-Block ℕ Expr (List SignalType) (List SignalType) (List SignalType) form_signals_layer block_signals_layer stmt_signals_layer (record { at = y.at; statements = made.part }))
+      (ap signals_of_block made.is ∙ fold-roll-Block ℕ Expr (List DeclaredSignal) (List DeclaredSignal) (List DeclaredSignal) form_signals_layer block_signals_layer stmt_signals_layer (record { at = y.at; statements = made.part }))
       (stmts_kept y.statements made.part made.gives))
 
   abbrev plain_stmt : Stmt-F ℕ (Raw TableEntry) ProvedForm ProvedBlock ProvedStmt → Stmt-F ℕ (Raw TableEntry) SourceForm SourceBlock SourceStmt
@@ -247,11 +248,11 @@ module _ (t : Tables) where
   stmt_of : (y : Stmt-F ℕ (Raw TableEntry) ProvedForm ProvedBlock ProvedStmt) → OfStmt (stmt.roll-Stmt ℕ (Raw TableEntry) (plain_stmt y))
   stmt_of y v g =
       let check = fold-roll-Stmt ℕ (Raw TableEntry) (Checked TypedForm) (Checked TypedBlock) (Checked TypedStmt) (form_layer t) block_layer stmt_layer (plain_stmt y) in
-      let these = fold-roll-Stmt ℕ (Raw TableEntry) (List SignalType) (List SignalType) (List SignalType) form_signals_layer block_signals_layer stmt_signals_layer (plain_stmt y) in
+      let these = fold-roll-Stmt ℕ (Raw TableEntry) (List DeclaredSignal) (List DeclaredSignal) (List DeclaredSignal) form_signals_layer block_signals_layer stmt_signals_layer (plain_stmt y) in
       let made = given_map (stmt_at y.at) (checked_form t y.form.0) v (subst (λ c. Gives c v) check g) in
       subst (λ l. Kept l (signals_of_stmt v)) (sym these)
       (kept_as (signals_of_form made.part) (signals_of_stmt v)
-      (ap signals_of_stmt made.is ∙ fold-roll-Stmt ℕ Expr (List SignalType) (List SignalType) (List SignalType) form_signals_layer block_signals_layer stmt_signals_layer (record { at = y.at; form = made.part }))
+      (ap signals_of_stmt made.is ∙ fold-roll-Stmt ℕ Expr (List DeclaredSignal) (List DeclaredSignal) (List DeclaredSignal) form_signals_layer block_signals_layer stmt_signals_layer (record { at = y.at; form = made.part }))
       (y.form.1 made.part made.gives))
 
   block_kept : (b : SourceBlock) → OfBlock b
@@ -271,7 +272,7 @@ module _ (t : Tables) where
   ports_kept : (ps : List (Port ℕ)) → flat_map port_failures ps ≡ [] → Kept (one_list (map signals_of_port ps)) (one_list (map signals_of_port ps))
   ports_kept [] h = none_kept [] refl
   ports_kept (port.Signal p ∷ ps) h =
-      two_kept (declared_type p.signal.valued ∷ []) (one_list (map signals_of_port ps)) (declared_type p.signal.valued ∷ []) (one_list (map signals_of_port ps)) (signal_kept p.signal.valued (first_nil (combination_failures p.signal.valued) (flat_map port_failures ps) h))
+      two_kept (declaration_of p.signal ∷ []) (one_list (map signals_of_port ps)) (declaration_of p.signal ∷ []) (one_list (map signals_of_port ps)) (signal_kept p.signal (first_nil (combination_failures p.signal.valued) (flat_map port_failures ps) h))
       (ports_kept ps (second_nil (combination_failures p.signal.valued) (flat_map port_failures ps) h))
   ports_kept (port.Channel c ∷ ps) h = ports_kept ps h
 
@@ -288,8 +289,8 @@ module _ (t : Tables) where
   still_declared u tree v c d = d ∙ sym (tree_kept tree v c).same
 
   pub combined : (u : Tables) (tree : Tree ℕ (Raw TableEntry)) (v : TypedTree) → checked_tree t tree ≡ fine v → AreDeclared u tree → combinations_fit u ≡ true
-  combined u tree v c d = in_types u.signals ∙ ap all_fit d ∙ (tree_kept tree v c).fit
+  combined u tree v c d = as_listed 0 u.signals ∙ ap all_fit d ∙ (tree_kept tree v c).fit
     where
-      in_types : (infos : List SignalInfo) → combinations_fit (record u { signals = infos }) ≡ all_fit (map type_of infos)
-      in_types [] = refl
-      in_types (x ∷ xs) = ap (λ b. combines x.kind x.combine && b) (in_types xs)
+      as_listed : (n : ℕ) (infos : List SignalInfo) → combinations_fit (record u { signals = infos }) ≡ all_fit (listed_from n infos)
+      as_listed n [] = refl
+      as_listed n (x ∷ xs) = ap (λ b. combines x.kind x.combine && b) (as_listed (suc n) xs)

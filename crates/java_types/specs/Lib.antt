@@ -1,2 +1,3 @@
 pub mod definitions
 pub mod KindRows
+pub mod SmallTrees

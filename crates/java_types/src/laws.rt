@@ -39,7 +39,8 @@ pub fn fitting_combinations(typed: &Typed)
     ensures { combinations_fit typed.now.tables ≡ true }
 {}
 
-/// Each signal of the tables is one that the tree with kinds declares, in order, with its kind and its combination.
+/// Each signal of the tables is one that the tree with kinds declares, in order, with its number, its kind and its
+/// combination.
 pub fn declared_signals(typed: &Typed)
     ensures { AreDeclared typed.now.tables typed.now.tree }
 {}

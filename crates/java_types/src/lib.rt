@@ -4,6 +4,7 @@
 mod conversions;
 mod expressions;
 mod failure;
+mod fit_rows;
 mod laws;
 mod lists;
 mod operand;
@@ -18,6 +19,9 @@ mod trees;
 mod typing;
 
 pub use failure::{TypeError, TypeFailure};
+pub use fit_rows::{
+    small_combinations, small_expressions, small_kinds, small_operands, small_signal_names,
+};
 pub use laws::{declared_signals, fitting_combinations, fitting_kinds};
 pub use rows::{small_conversions, small_operators, small_signals};
 pub use trees::Typed;

@@ -1,6 +1,6 @@
 ghost use Rattle.std.specs.Prelude.{◌≡◌, ◌||◌, not, MatchResult};
 ghost use Rattle.java_types.specs.definitions.Checks.{fine, IsFirst};
-ghost use Rattle.java_types.specs.definitions.Spellings.{grouped, unary_spelling, is_divisor};
+ghost use Rattle.java_types.specs.definitions.Spellings.{grouped, unary_spelling, spells_divisor};
 ghost use Rattle.java_types.specs.definitions.Operands.{divides, binary, unary, cast, in_parentheses};
 
 use crate::failure::{TypeError, TypeFailure};
@@ -34,8 +34,8 @@ fn unary_spelling(op: Op1, spelling: Spelling) -> Spelling
 }
 
 /// Whether what is spelled so may be a divisor.
-fn is_divisor(spelling: Spelling) -> bool
-    ensures { result ≡ is_divisor spelling }
+fn spells_divisor(spelling: Spelling) -> bool
+    ensures { result ≡ spells_divisor spelling }
 {
     match spelling {
         Spelling::Literal(value) => value.kind() != Kind::Boolean && value.number() != 0,
@@ -57,9 +57,9 @@ fn divides(op: Op2) -> bool
 
 /// Whether what is spelled so may stand on the right of the operator.
 fn may_divide(op: Op2, spelling: Spelling) -> bool
-    ensures { result ≡ (not (divides op) || is_divisor spelling) }
+    ensures { result ≡ (not (divides op) || spells_divisor spelling) }
 {
-    !divides(op) || is_divisor(spelling)
+    !divides(op) || spells_divisor(spelling)
 }
 
 /// The operator on one operand, at its place.

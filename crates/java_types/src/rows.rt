@@ -12,7 +12,7 @@ ghost use Rattle.sj_names.specs.declared.entry.TableEntry.{TableEntry};
 ghost use Rattle.java_types.specs.declared.operand.Spelling.TheVariants as spelling;
 ghost use Rattle.java_types.specs.declared.failure.TypeFailure.TheVariants as failure;
 ghost use Rattle.java_types.specs.definitions.Checks.{fine, wrong, then, first_of};
-ghost use Rattle.java_types.specs.definitions.Spellings.{is_divisor, unary_spelling, grouped};
+ghost use Rattle.java_types.specs.definitions.Spellings.{spells_divisor, unary_spelling, grouped};
 ghost use Rattle.java_types.specs.definitions.Operands.{expr_of, unary, cast, binary, in_parentheses, written};
 ghost use Rattle.java_types.specs.definitions.Conversions.{given, condition, updated, variable_of};
 ghost use Rattle.java_types.specs.definitions.TypedTrees.{emission, combination_failures};
@@ -74,13 +74,13 @@ pub fn small_operators()
         (variable kind.Int)).failures ≡ Some (failure.Divisor 7) }
     ensures kinds_first { binary 5 op2.Div (variable_of kind.Boolean 0)
         (literal_of kind.Int (pos 0)) ≡ wrong (failure.Mismatch 5) }
-    ensures minus_number { is_divisor (unary_spelling op1.Minus
+    ensures minus_number { spells_divisor (unary_spelling op1.Minus
         (spelling.Literal (number_of kind.Int (pos 5)))) ≡ true }
-    ensures minus_character { is_divisor (unary_spelling op1.Minus
+    ensures minus_character { spells_divisor (unary_spelling op1.Minus
         (spelling.Literal (number_of kind.Char (pos 97)))) ≡ false }
-    ensures minus_parentheses { is_divisor (unary_spelling op1.Minus
+    ensures minus_parentheses { spells_divisor (unary_spelling op1.Minus
         (grouped (spelling.Literal (number_of kind.Int (pos 5))))) ≡ false }
-    ensures minus_in_parentheses { is_divisor (grouped (grouped
+    ensures minus_in_parentheses { spells_divisor (grouped (grouped
         (unary_spelling op1.Minus (spelling.Literal (number_of kind.Int (pos 5)))))) ≡ true }
     ensures cast_back { updated kind.Byte 0 5 op2.Add (literal_of kind.Int (pos 1)) ≡
         fine (cast_expr kind.Byte

@@ -15,7 +15,7 @@ use sj_names::{Bound, TableEntry};
 use std::alloc::Global;
 
 #[tactic(auto, using(crate::proofs::CheckLemmas::checks))]
-fn typed_tree(
+fn tree_with_kinds(
     alloc: Global,
     tables: &Tables,
     tree: &Tree<u32, Raw<TableEntry>>,
@@ -36,7 +36,7 @@ fn typed_tree(
 pub fn typed(alloc: Global, bound: &Bound) -> Result<Typed, TypeError>
     ensures { MatchResult result (IsTyping bound.now) (IsWhyUntyped bound.now) }
 {
-    let tree = typed_tree(alloc, &bound.tables, &bound.tree)?;
+    let tree = tree_with_kinds(alloc, &bound.tables, &bound.tree)?;
     let tables = copied_tables(alloc, &bound.tables)?;
     kept_facts(bound, &tree, &tables);
     Ok(Typed { tree, tables })

@@ -16,7 +16,7 @@ use Rattle.sj_ast.specs.declared.statement.Form.TheVariants as form_is
 use Rattle.sj_ast.specs.declared.statement.Block as block
 use Rattle.sj_ast.specs.declared.statement.Stmt as stmt
 use Rattle.sj_ast.specs.declared.statement.Form.TheOpen.{Form-F, Block-F, Stmt-F}
-use Rattle.sj_ast.specs.declared.statement.Form.TheFolds.{fold-roll-Form, fold-roll-Block, fold-roll-Stmt, ind-Block}
+use Rattle.sj_ast.specs.declared.statement.Form.TheFolds.{fold-roll-Form, fold-roll-Block, fold-roll-Stmt, ind-Block, ind-Stmt}
 use Rattle.sj_names.specs.declared.entry.TableEntry.{TableEntry}
 use Rattle.sj_names.specs.declared.mention.NameSort.TheVariants as sort
 use Rattle.sj_names.specs.declared.mention.Role.TheVariants as role
@@ -497,4 +497,9 @@ module _ (t : Tables) (d : ℕ) where
   pub block_numbers_fit : (b : SourceBlock) → BlockFits t d block_fit (block_part b) (declared_block d b) (numbered_block b)
   block_numbers_fit =
       ind-Block Name (Raw Name) OfForm OfBlock OfStmt (λ x y is. subst (λ z. OfForm (form.roll-Form Name (Raw Name) z)) is (form_step y)) (λ x y is. subst (λ z. OfBlock (block.roll-Block Name (Raw Name) z)) is (block_of y))
+      (λ x y is. subst (λ z. OfStmt (stmt.roll-Stmt Name (Raw Name) z)) is (stmt_of y))
+
+  pub stmt_numbers_fit : (x : SourceStmt) → PartFits t d stmt_fit (stmt_part x) (declared_stmt d x) (numbered_stmt x)
+  stmt_numbers_fit =
+      ind-Stmt Name (Raw Name) OfForm OfBlock OfStmt (λ x y is. subst (λ z. OfForm (form.roll-Form Name (Raw Name) z)) is (form_step y)) (λ x y is. subst (λ z. OfBlock (block.roll-Block Name (Raw Name) z)) is (block_of y))
       (λ x y is. subst (λ z. OfStmt (stmt.roll-Stmt Name (Raw Name) z)) is (stmt_of y))

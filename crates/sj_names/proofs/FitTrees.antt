@@ -61,7 +61,7 @@ domains_fit t ns k s (b ∷ bs) h o x y v =
     (subst (λ e. fit_domains t (entry_rules t) (suc k) (blocks_in_order (map numbered_block bs) e).value ≡ true) (sym (f.scope s)) rest)
 
 -- the interface's names are visible behind its ports with their numbers too
-ports_scope : (ps : List (Port Name)) (s : Scope) → (numbered_ports ps s).scope ≡ (in_order (map port_part ps) s).scope
+pub ports_scope : (ps : List (Port Name)) (s : Scope) → (numbered_ports ps s).scope ≡ (in_order (map port_part ps) s).scope
 ports_scope [] s = refl
 ports_scope (port.Signal p ∷ ps) s = ports_scope ps (port_part (port.Signal p) s).scope
 ports_scope (port.Channel c ∷ ps) s = ports_scope ps (port_part (port.Channel c) s).scope

@@ -38,14 +38,14 @@ zero_more n = omega arith
 step_more : (n m : ℕ) → suc n + m ≡ n + suc m
 step_more n m = omega arith
 
-one_step : (n m : ℕ) → n ≡ m → n + 1 ≡ suc m
+pub one_step : (n m : ℕ) → n ≡ m → n + 1 ≡ suc m
 one_step n m e = omega arith
 
 named_new : (t : Tables) (ns : List (List Mention)) (s : NameSort) (name : List ℕ) (c : Scope) → meaning_in c.visible name ≡ None → AllNamed (PortEntry t ns) c.visible → PortEntry t ns s (count_of s c.counts) → AllNamed (PortEntry t ns) (declare s name c).visible
 named_new t ns s name c e v h =
     subst (λ o. AllNamed (PortEntry t ns) (declared_where o s name c).visible) (sym e) (one_named_more (PortEntry t ns) c.visible (record { name = name; meaning = record { sort = s; number = count_of s c.counts } }) v h)
 
-counts_new : (s : NameSort) (name : List ℕ) (c : Scope) → meaning_in c.visible name ≡ None → (declare s name c).counts ≡ counted s c.counts
+pub counts_new : (s : NameSort) (name : List ℕ) (c : Scope) → meaning_in c.visible name ≡ None → (declare s name c).counts ≡ counted s c.counts
 counts_new s name c e = ap (λ o. (declared_where o s name c).counts) e
 
 signal_there : (t : Tables) (ns : List (List Mention)) (n : ℕ) (i : SignalInfo) (more : List SignalInfo) → i.domain ≡ first_domain ns way.PortSignal n → drop n t.signals ≡ i ∷ more → SignalEntry t ns i.sort n
@@ -57,11 +57,11 @@ signal_entry : (t : Tables) (ns : List (List Mention)) (d : Direction) (n : ℕ)
 signal_entry t ns direction.Input n e = e
 signal_entry t ns direction.Output n e = e
 
-number_of_signal : (d : Direction) (c : Counts) → count_of (signal_sort d) c ≡ c.signals
+pub number_of_signal : (d : Direction) (c : Counts) → count_of (signal_sort d) c ≡ c.signals
 number_of_signal direction.Input c = refl
 number_of_signal direction.Output c = refl
 
-counted_signal : (d : Direction) (c : Counts) → counted (signal_sort d) c ≡ one_signal_more c
+pub counted_signal : (d : Direction) (c : Counts) → counted (signal_sort d) c ≡ one_signal_more c
 counted_signal direction.Input c = refl
 counted_signal direction.Output c = refl
 

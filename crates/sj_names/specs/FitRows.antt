@@ -1,5 +1,5 @@
 -- Small tables, and parts of trees with their numbers.
-use Rattle.std.specs.Prelude.{ℕ, Bool, true, false, List, [], ◌∷◌, Option, Some, None, codes}
+use Rattle.std.specs.Prelude.{ℕ, Bool, true, false, List, [], ◌∷◌, map, Option, Some, None, codes}
 use Rattle.java_values.specs.declared.kind.Kind.{Kind}
 use Rattle.java_values.specs.declared.kind.Kind.TheVariants.{Int}
 use Rattle.java_values.specs.declared.op.Op2.TheVariants.{Add}
@@ -9,6 +9,9 @@ use Rattle.sj_ast.specs.declared.expression.Raw as raw
 use Rattle.sj_ast.specs.declared.expression.Raw.TheOpen.{Raw-F}
 use Rattle.sj_ast.specs.declared.test.Test as signal_test
 use Rattle.sj_ast.specs.declared.test.Test.TheOpen.{Test-F}
+use Rattle.sj_ast.specs.declared.port.Direction.TheVariants.{Output}
+use Rattle.sj_ast.specs.declared.port.Port.TheVariants as port
+use Rattle.sj_ast.specs.declared.port.Signal.{Signal}
 use Rattle.sj_ast.specs.declared.statement.Form as form
 use Rattle.sj_ast.specs.declared.statement.Form.TheOpen.{Form-F}
 use Rattle.sj_ast.specs.declared.statement.Block as block
@@ -131,3 +134,33 @@ emitting s = block.roll-Block ℕ Bool (record {
 
 abbrev pub tree_of : List (block.Block ℕ Bool) → Tree ℕ Bool
 tree_of domains = record { ports = []; domains = domains }
+
+-- an output, and two local signals
+abbrev pub two_locals : Tables
+two_locals = record {
+  signals =
+      pure_signal (codes "A") 0 sort.Output ∷ pure_signal (codes "L") 0 sort.Local ∷
+      pure_signal (codes "M") 0 sort.Local ∷ [];
+  channels = [];
+  variables = [];
+}
+
+abbrev pub signal_of : ℕ → Signal ℕ
+signal_of s = record { at = 0; name = s; valued = None }
+
+abbrev pub declaring : List ℕ → block.Block ℕ Bool
+declaring numbers =
+    block.roll-Block ℕ Bool (record {
+      at = 0;
+      statements =
+          map (λ s. stmt.roll-Stmt ℕ Bool (record { at = 1; form = form.Declare (signal_of s) }))
+          numbers;
+    })
+
+-- a tree with an output of the first number, whose domain declares local signals of the others
+abbrev pub tree_declaring : ℕ → List ℕ → Tree ℕ Bool
+tree_declaring output locals =
+    record {
+      ports = port.Signal (record { direction = Output; signal = signal_of output }) ∷ [];
+      domains = declaring locals ∷ [];
+    }

@@ -14,7 +14,8 @@ use thiserror::Error;
 
 /// A tree with numbers in place of names, in expressions with entries, and the tables of them. Each number names an entry
 /// of the tables that may be used where it stands. The tables keep what is asked of names, limits and entries, there is a
-/// domain, and traps nest at most 64 deep. Each signal of the tables is one that the tree declares, in order.
+/// domain, and traps nest at most 64 deep. Each signal of the tables is one that the tree declares, in order, with its
+/// number. So each signal is declared once.
 #[derive(Debug, Drop)]
 pub struct Bound {
     pub tree: Tree<u32, Raw<TableEntry>>,

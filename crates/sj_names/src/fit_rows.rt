@@ -8,8 +8,9 @@ ghost use Rattle.sj_ast.specs.declared.expression.Raw.TheOpen.{Raw-F};
 ghost use Rattle.sj_ast.specs.declared.test.Test.TheOpen.{Test-F};
 ghost use Rattle.sj_ast.specs.declared.statement.Form.TheOpen.{Form-F};
 ghost use Rattle.sj_names.specs.declared.entry.TableEntry.TheVariants as entry;
+ghost use Rattle.sj_names.specs.definitions.DeclaredSignals.{AreDeclared};
 ghost use Rattle.sj_names.specs.definitions.FittingTrees.{term_scope, at_start, fits_tree, entry_rules};
-ghost use Rattle.sj_names.specs.FitRows.{small, judged, a_form, in_block, fits_in, exits, in_trap_of, declares, declares_valued, emits, sustains, new_variable, assigns, updates, updates_written_out, sends, receives, of_signal, wrong, fine, status_fits, name_fits, tests_as, reads_as, of_variable, emitting, tree_of};
+ghost use Rattle.sj_names.specs.FitRows.{small, judged, a_form, in_block, fits_in, exits, in_trap_of, declares, declares_valued, emits, sustains, new_variable, assigns, updates, updates_written_out, sends, receives, of_signal, wrong, fine, status_fits, name_fits, tests_as, reads_as, of_variable, emitting, tree_of, two_locals, tree_declaring};
 
 /// Which exits, and which uses and declarations of signals, fit where they stand.
 pub fn small_exits_and_signals()
@@ -129,4 +130,14 @@ pub fn small_parts()
         ≡ false }
     ensures second_domain { fits_tree small judged (tree_of (emitting 1 ∷ emitting 1 ∷ []))
         ≡ false }
+{}
+
+/// A tree declares the signals of tables where each declaration has the next number, and only there.
+pub fn small_declarations()
+    ensures each_the_next { AreDeclared two_locals (tree_declaring 0 (1 ∷ 2 ∷ [])) }
+    ensures two_of_one_number { AreDeclared two_locals (tree_declaring 0 (1 ∷ 1 ∷ [])) → ⊥ }
+    ensures exchanged { AreDeclared two_locals (tree_declaring 0 (2 ∷ 1 ∷ [])) → ⊥ }
+    ensures local_as_the_output { AreDeclared two_locals (tree_declaring 0 (0 ∷ 2 ∷ [])) → ⊥ }
+    ensures output_as_a_local { AreDeclared two_locals (tree_declaring 1 (1 ∷ 2 ∷ [])) → ⊥ }
+    ensures one_too_few { AreDeclared two_locals (tree_declaring 0 (1 ∷ [])) → ⊥ }
 {}

@@ -30,7 +30,8 @@ pub use binding::{BindError, Bound};
 pub use entry::TableEntry;
 pub use failure::{Failure, FailureKind};
 pub use fit_rows::{
-    small_exits_and_signals, small_parts, small_tests_and_expressions, small_values_and_channels,
+    small_declarations, small_exits_and_signals, small_parts, small_tests_and_expressions,
+    small_values_and_channels,
 };
 pub use mention::{Counts, Group, Meaning, Mention, NameSort, Role, Use};
 pub use numbering::numbered_tree;

@@ -74,7 +74,7 @@ pub fn bound_trees_fit(bound: &Bound)
 {}
 
 /// The tables of a bound tree keep what is asked of names, limits and entries. It has a domain, its traps nest at most
-/// 64 deep, and it declares the signals of the tables, in order.
+/// 64 deep, and it declares the signals of the tables, in order, each with its number.
 pub fn bound_trees_are_sound(bound: &Bound)
     ensures tables { AreSoundTables bound.now.tables (length bound.now.tree.domains) }
     ensures some { 1 ≤ length bound.now.tree.domains }

@@ -20,7 +20,7 @@ use Rattle.java_types.specs.declared.operand.Spelling.TheVariants as spelling
 use Rattle.java_types.specs.declared.operand.Operand.{Operand}
 use Rattle.java_types.specs.declared.expressions.Operands.{Operands}
 use Rattle.java_types.specs.declared.failure.TypeFailure.TheVariants as failure
-use Rattle.java_types.specs.definitions.Spellings.{grouped, unary_spelling, is_divisor}
+use Rattle.java_types.specs.definitions.Spellings.{grouped, unary_spelling, spells_divisor}
 use Rattle.java_types.specs.definitions.Checks.{Checked, fine, wrong, map2, then}
 
 abbrev pub expr_of : Kind → expr_form.ExprForm → expr.Expr
@@ -85,7 +85,7 @@ divides _ = false
 abbrev pub with_divisor : Bool → Operand → expr.Expr → Checked expr.Expr
 with_divisor false r e = fine e
 with_divisor true r e =
-    cond (is_divisor r.spelling) (fine e) (record {
+    cond (spells_divisor r.spelling) (fine e) (record {
       value = Some e;
       failures = failure.Divisor r.first ∷ [];
     })

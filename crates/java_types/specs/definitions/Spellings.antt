@@ -33,13 +33,13 @@ abbrev pub is_zero : TypedNumber → Bool
 is_zero v = int_eq v.number (pos 0)
 
 -- A divisor is an integer or character literal other than 0, or a minus right before an integer literal other than 0.
-abbrev pub is_divisor : Spelling → Bool
-is_divisor (spelling.Literal v) = is_integer v.kind && not (is_zero v)
-is_divisor (spelling.Grouped v) = is_integer v.kind && not (is_zero v)
-is_divisor (spelling.Minus v) = is_number_kind v.kind && not (is_zero v)
-is_divisor (spelling.MinusGrouped v) = false
-is_divisor (spelling.Least v) = is_integer v.kind && not (is_zero v)
-is_divisor spelling.Other = false
+abbrev pub spells_divisor : Spelling → Bool
+spells_divisor (spelling.Literal v) = is_integer v.kind && not (is_zero v)
+spells_divisor (spelling.Grouped v) = is_integer v.kind && not (is_zero v)
+spells_divisor (spelling.Minus v) = is_number_kind v.kind && not (is_zero v)
+spells_divisor (spelling.MinusGrouped v) = false
+spells_divisor (spelling.Least v) = is_integer v.kind && not (is_zero v)
+spells_divisor spelling.Other = false
 
 abbrev pub may_narrow : Kind → Bool
 may_narrow kind.Int = true

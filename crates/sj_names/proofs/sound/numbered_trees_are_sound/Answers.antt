@@ -24,4 +24,4 @@ pub returns-clause-traps : goal.returns-clause-traps
 returns-clause-traps c = traps_as_deep most_traps c.args.tree.now ∙ c.requires.traps
 
 pub returns-clause-declared : goal.returns-clause-declared
-returns-clause-declared c = tables_are_declared c.args.tree.now
+returns-clause-declared c = tables_are_declared c.args.tree.now c.requires.sound
