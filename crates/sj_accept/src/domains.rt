@@ -3,7 +3,7 @@ ghost use Rattle.sj_accept.specs.Lowered.{AreTermsOf};
 ghost use Rattle.sj_accept.specs.definitions.Optional.{all_some};
 ghost use Rattle.sj_accept.specs.definitions.Lowering.{block_term};
 
-use crate::lists::first_of;
+use crate::lists::begins_with_item;
 use crate::statements::block_term;
 use java_values::NoMemory;
 use kernel_terms::{Expr, Term};
@@ -21,7 +21,7 @@ pub fn domain_terms(
     let mut terms = Vec::new(alloc);
     for i in 0..domains.len() {
         let domain = &domains[i];
-        first_of(domains, i, domain);
+        begins_with_item(domains, i, domain);
         let Some(term) = block_term(alloc, domain)? else {
             return Ok(None);
         };

@@ -114,9 +114,10 @@ fn values_of_another_kind(rt: HostRuntime) -> Result<(), Fail> {
 
 #[test]
 fn operators_that_do_not_fit(rt: HostRuntime) -> Result<(), Fail> {
-    let cases: [(&[u8], &[u8]); 14] = [
+    let cases: [(&[u8], &[u8]); 15] = [
         (b"i=1", b"+t;"),
         (b"i=t", b"+1;"),
+        (b"t=t", b"+t;"),
         (b"t=", b"!1;"),
         (b"i=", b"-t;"),
         (b"i=", b"(int)t;"),

@@ -5,7 +5,7 @@ ghost use Rattle.kernel_terms.specs.Expressions.{expression};
 ghost use Rattle.sj_accept.specs.BuiltTerms.{IsTermOf, IsTermOfBlock};
 ghost use Rattle.sj_accept.specs.definitions.Lowering.{block_of, int_of, send_of, stmt_term, block_term};
 
-use crate::lists::first_of;
+use crate::lists::begins_with_item;
 use java_values::{Kind, NoMemory};
 use kernel_terms::{Expr, ExprForm, Form, Term};
 use sj_ast as ast;
@@ -125,7 +125,7 @@ pub fn block_term(alloc: Global, block: &Block<u32, Expr>) -> Result<Option<Term
     let mut terms = Vec::new(alloc);
     for i in 0..statements.len() {
         let statement = &statements[i];
-        first_of(statements, i, statement);
+        begins_with_item(statements, i, statement);
         let Some(term) = statement_term(alloc, statement)? else {
             return Ok(None);
         };

@@ -93,7 +93,7 @@ fn tells_the_first_reason(rt: HostRuntime) -> Result<(), Fail> {
 
 #[test]
 fn looks_at_names(rt: HostRuntime) -> Result<(), Fail> {
-    let cases: [(&[u8], FailureKind, u32); 9] = [
+    let cases: [(&[u8], FailureKind, u32); 11] = [
         (
             b"system{interface{output signal A;}{emit B;}}",
             FailureKind::Unknown,
@@ -138,6 +138,16 @@ fn looks_at_names(rt: HostRuntime) -> Result<(), Fail> {
             b"system{interface{input signal A;}{emit A;}}",
             FailureKind::EmitInput,
             39,
+        ),
+        (
+            b"system{interface{input signal A;}{sustain A;}}",
+            FailureKind::EmitInput,
+            42,
+        ),
+        (
+            b"system{interface{int channel C;}{int C=1;send C(1);}><{receive C;}}",
+            FailureKind::Twice,
+            37,
         ),
     ];
     for (source, fault, at) in cases {
@@ -431,8 +441,8 @@ fn accepts_sixteen_domains(rt: HostRuntime) -> Result<(), Fail> {
     Ok(())
 }
 
-// Two domains joined by 64 channels, and by one more where `more` is set.
-fn joined(alloc: Global, more: bool) -> Result<Vec<u8>, AllocError> {
+// Two domains joined by 64 channels; there is one more channel where `more` is set, with both ends where `ends` is.
+fn joined(alloc: Global, more: bool, ends: bool) -> Result<Vec<u8>, AllocError> {
     let mut source = Vec::from_slice(alloc, b"system{interface{")?;
     let mut sends = Vec::from_slice(alloc, b"{")?;
     let mut receives = Vec::from_slice(alloc, b"><{")?;
@@ -452,6 +462,8 @@ fn joined(alloc: Global, more: bool) -> Result<Vec<u8>, AllocError> {
     }
     if more {
         source.extend_from_slice(b"int channel z;")?;
+    }
+    if ends {
         sends.extend_from_slice(b"send z(1);")?;
         receives.extend_from_slice(b"receive z;")?;
     }
@@ -465,12 +477,18 @@ fn joined(alloc: Global, more: bool) -> Result<Vec<u8>, AllocError> {
 
 #[test]
 fn accepts_64_channels(rt: HostRuntime) -> Result<(), Fail> {
-    let most = joined(rt.alloc(), false)?;
+    let most = joined(rt.alloc(), false, false)?;
     assert_eq!(rt; refusal_of(rt.alloc(), &most)?, None);
-    let more = joined(rt.alloc(), true)?;
+    let more = joined(rt.alloc(), true, true)?;
     assert_eq!(rt;
         refusal_of(rt.alloc(), &more)?,
         failure(FailureKind::TooMany, 989)
+    );
+    // Its ends come before the limit.
+    let without_ends = joined(rt.alloc(), true, false)?;
+    assert_eq!(rt;
+        refusal_of(rt.alloc(), &without_ends)?,
+        failure(FailureKind::ChannelEnds, 989)
     );
     Ok(())
 }
@@ -532,6 +550,27 @@ fn counts_signals_of_a_later_domain(rt: HostRuntime) -> Result<(), Fail> {
     let (more, place) = with_a_later_domain(rt.alloc(), 1024)?;
     assert_eq!(rt;
         refusal_of(rt.alloc(), more.as_bytes())?,
+        failure(FailureKind::TooMany, place)
+    );
+    Ok(())
+}
+
+// A domain's local signal is declared before it mentions the signals of the interface, which count first.
+#[test]
+fn counts_signals_that_are_mentioned_later(rt: HostRuntime) -> Result<(), Fail> {
+    let mut source = String::from_str(rt.alloc(), "system{interface{")?;
+    for signal in 0..1024u32 {
+        source.push_str(format!(in rt.alloc(); "output signal A{signal};")?.as_str())?;
+    }
+    source.push_str("}{signal ")?;
+    let place = u32::try_from(source.len()).map_err(|_| AllocError)?;
+    source.push_str("L;")?;
+    for signal in 0..1024u32 {
+        source.push_str(format!(in rt.alloc(); "emit A{signal};")?.as_str())?;
+    }
+    source.push_str("}}")?;
+    assert_eq!(rt;
+        refusal_of(rt.alloc(), source.as_bytes())?,
         failure(FailureKind::TooMany, place)
     );
     Ok(())

@@ -5,7 +5,7 @@ use Rattle.sj_accept.proofs.statements.+lowering.Goals as goal
 pub block_term-loop-i-preserved : goal.block_term-loop-i-preserved
 block_term-loop-i-preserved t c =
     statements_more c.as_slice-statements.result.now (drop c.loop-i.i c.as_slice-statements.result.now) (drop (c.loop-i.i + 1) c.as_slice-statements.result.now) c.loop-i.terms.items c.push.new.self.items c.index-statements-i.result c.in-Some.term
-    c.first_of.ensures c.in_ok-push.ensures.items (rw c.in-Some.is at c.in_ok-term.ensures.value) (rw c.in-Some.is at c.in_ok-term.ensures.term) c.loop-i.invariant
+    c.begins_with_item.ensures c.in_ok-push.ensures.items (rw c.in-Some.is at c.in_ok-term.ensures.value) (rw c.in-Some.is at c.in_ok-term.ensures.term) c.loop-i.invariant
 
 pub block_term-returns-clause-value : goal.block_term-returns-clause-value
 block_term-returns-clause-value t c =
