@@ -6,6 +6,7 @@ ghost use Rattle.cell_core.specs.declared.moves.CellMove.TheVariants as make;
 ghost use Rattle.cell_core.specs.definitions.Ends.{JoinsOffer, JoinsStanding};
 ghost use Rattle.cell_core.specs.definitions.Ends.{JoinFits};
 ghost use Rattle.channel_cell.specs.definitions.Channels.{IsFresh, Makes, Settles, view_of};
+ghost use Rattle.channel_cell.specs.definitions.Channels.{most_offers};
 
 use crate::ends::{End, last_recalls, new_ends};
 use cell_core::Joined;
@@ -24,7 +25,7 @@ impl Channel {
         kind: Kind,
         offers: u32,
     ) -> Result<(SenderEnd, ReceiverEnd), NoMemory>
-        requires { offers ≤ 200000 }
+        requires { offers ≤ most_offers }
         ensures channel { IfOk result (λ e. e.1.channel ≡ e.0.channel) }
         ensures sender { IfOk result (λ e. IsFresh sides.Sender kind (2 * offers + 1) e.0) }
         ensures receiver { IfOk result (λ e. IsFresh sides.Receiver kind (2 * offers + 1) e.1) }

@@ -7,7 +7,7 @@ ghost use Rattle.cell_core.specs.declared.moves.Side.TheVariants as sides;
 ghost use Rattle.cell_core.specs.declared.moves.CellMove.TheVariants as make;
 ghost use Rattle.cell_core.specs.definitions.Ends.{JoinsOffer, JoinsStanding};
 ghost use Rattle.cell_core.specs.definitions.Ends.{JoinFits};
-ghost use Rattle.channel_cell.specs.definitions.Channels.{IsFresh, Makes, view_of, join_in};
+ghost use Rattle.channel_cell.specs.definitions.Channels.{IsFresh, Makes, most_offers, view_of, join_in};
 ghost use Rattle.channel_cell.specs.Tallies.{tally, offer_of};
 ghost use Rattle.channel_cell.specs.Calls.{RecallsLast};
 
@@ -147,7 +147,7 @@ impl End {
 
 // The sender's and the receiver's end of a new channel.
 pub fn new_ends(alloc: Global, kind: Kind, offers: u32) -> Result<(End, End), NoMemory>
-    requires { offers ≤ 200000 }
+    requires { offers ≤ most_offers }
     ensures channel { IfOk result (λ e. e.1.channel ≡ e.0.channel) }
     ensures sender { IfOk result (λ e. IsFresh sides.Sender kind (2 * offers + 1) e.0) }
     ensures receiver { IfOk result (λ e. IsFresh sides.Receiver kind (2 * offers + 1) e.1) }

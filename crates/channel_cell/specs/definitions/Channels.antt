@@ -13,6 +13,10 @@ use Rattle.cell_core.specs.definitions.Histories.{entry, IsCellHistory}
 use Rattle.cell_core.specs.definitions.Ends.{StandingOffer, EndView}
 use Rattle.cell_core.specs.definitions.Ends.{JoinFits}
 
+-- how many offers each side of a channel may make
+abbrev pub most_offers : ℕ
+most_offers = 200000
+
 -- An end: its channel, its side, the kind of the channel, its own moves with their places and replies, its
 -- offer that stands, if one does, and how many more moves it may make.
 pub record EndState : Type 0 where
