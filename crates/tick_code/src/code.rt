@@ -34,10 +34,18 @@ impl Code {
         ensures value { IfSome result (λ c. c ≡ equations.items) }
     {
         if are_ordered(&equations) {
-            Some(Code { equations })
+            Some(Code::of_ordered(equations))
         } else {
             None
         }
+    }
+
+    /// The code of ordered equations.
+    pub(crate) fn of_ordered(equations: Vec<Equation>) -> Code
+        requires { IsOrdered 0 equations.items }
+        ensures { result ≡ equations.items }
+    {
+        Code { equations }
     }
 
     /// How many wires the code gives.

@@ -1,2 +1,3 @@
 pub mod EquationLemmas
+pub mod NumberingLemmas
 pub mod SolutionLemmas

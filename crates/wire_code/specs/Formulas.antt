@@ -31,17 +31,21 @@ Satisfies f w (e ∷ es) = (w e.wire ≡ formula_value f w e.formula) × Satisfi
 abbrev pub number_at : List ℤ → ℕ → ℤ
 number_at ns k = slice_index_or ns k (pos 0)
 
+-- this holds of each wire that the formula reads
+abbrev pub EachRead : (ℕ → Type 0) → Formula → Type 0
+EachRead P (Const n) = Unit {0}
+EachRead P (Get k) = Unit {0}
+EachRead P (And a b) = P a × P b
+EachRead P (Or a b) = P a × P b
+EachRead P (Not a) = P a
+EachRead P (Apply1 op k a) = P a
+EachRead P (Apply2 op k l a b) = P a × P b
+EachRead P (Cast k l a) = P a
+EachRead P (Choose c a b) = P c × P a × P b
+
 -- the formula reads wires below this one alone
 abbrev pub ReadsBelow : ℕ → Formula → Type 0
-ReadsBelow limit (Const n) = Unit {0}
-ReadsBelow limit (Get k) = Unit {0}
-ReadsBelow limit (And a b) = (a < limit) × (b < limit)
-ReadsBelow limit (Or a b) = (a < limit) × (b < limit)
-ReadsBelow limit (Not a) = a < limit
-ReadsBelow limit (Apply1 op k a) = a < limit
-ReadsBelow limit (Apply2 op k l a b) = (a < limit) × (b < limit)
-ReadsBelow limit (Cast k l a) = a < limit
-ReadsBelow limit (Choose c a b) = (c < limit) × (a < limit) × (b < limit)
+ReadsBelow limit g = EachRead (λ k. k < limit) g
 
 -- the first equation gives this wire, each other one the next, and each reads earlier wires alone
 abbrev pub IsOrdered : ℕ → List Equation → Type 0

@@ -1,6 +1,7 @@
 -- Words of the worked examples.
-use Rattle.std.specs.Prelude.{ℕ, ℤ, pos, negsuc, [], ◌∷◌}
+use Rattle.std.specs.Prelude.{ℕ, ◌+◌, ℤ, pos, negsuc, List, [], ◌∷◌, ◌==◌, if◌then◌else◌}
 use Rattle.wire_code.specs.declared.formula.Formula.{Formula}
+use Rattle.wire_code.specs.declared.formula.Formula.TheVariants.{Const, And, Not}
 use Rattle.wire_code.specs.declared.equation.Equation.{Equation}
 use Rattle.wire_code.specs.Formulas.{number_at, formula_value}
 
@@ -18,3 +19,16 @@ small_frame = number_at (pos 7 ∷ pos 9 ∷ [])
 -- over this frame and these wires
 abbrev pub value_of : Formula → ℤ
 value_of f = formula_value small_frame four_wires f
+
+-- each wire has a number greater by 10
+abbrev pub by_ten : ℕ → ℕ
+by_ten k = k + 10
+
+-- wires 7, 2^31 and 3, in this order
+abbrev pub scattered : List Equation
+scattered =
+    is 7 (Const (pos 4)) ∷ is 2147483648 (Not 7) ∷ is 3 (And 7 2147483648) ∷ []
+
+-- their places
+abbrev pub by_place : ℕ → ℕ
+by_place k = if k == 7 then 0 else (if k == 3 then 2 else 1)
