@@ -1,9 +1,11 @@
 //! The equations of a resuming tick of a statement: they tell a tick of what its registers stand for.
 #![tactic(auto)]
 
+mod domain_laws;
 mod laws;
 mod rows;
 
+pub use domain_laws::resuming_domains_tell_ticks;
 pub use laws::{
     resuming_copies_tell_ticks, resuming_operations_tell_ticks, resuming_ticks_are_told,
     resuming_ticks_are_told_by_operations,

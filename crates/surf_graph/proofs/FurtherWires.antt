@@ -59,7 +59,7 @@ runs_one : (n m : ℕ) (es : List WireEquation) (i : Operation) → Runs n es m 
 runs_one n m es i h r = runs_both n m (m + 1) es (gives m i ∷ []) h (record { ordered = (refl, r, tt); size = omega arith })
 
 -- a computation by wires from n on
-record Computes (n : ℕ) (a : Computing) : Type 0 where
+pub record Computes (n : ℕ) (a : Computing) : Type 0 where
   pub runs : Runs n a.equations a.next
   pub grows : n ≤ a.next
   pub wire : a.wire < a.next
@@ -79,7 +79,7 @@ computes_two n a b i h k r =
       wire = omega arith;
     }
 
-value_computes : (v : Wires) (n : ℕ) (e : Expression) → WiresBelow n v → Computes n (value_wires v n e)
+pub value_computes : (v : Wires) (n : ℕ) (e : Expression) → WiresBelow n v → Computes n (value_wires v n e)
 value_computes v n (Literal k m) b = record { runs = record { ordered = (refl, tt, tt); size = omega arith }; grows = omega arith; wire = omega arith }
 value_computes v n (Variable k x) b = record { runs = none_run n; grows = omega arith; wire = b.variables x }
 value_computes v n (SignalValue k s) b = record { runs = none_run n; grows = omega arith; wire = b.value s }
@@ -99,7 +99,7 @@ value_computes v n (Cast k e) b =
     let x = value_computes v n e b in
     computes_one n a (wire.Cast (kind_of e) k a.wire) x x.wire
 
-test_computes : (v : Wires) (n : ℕ) (t : Test) → WiresBelow n v → Computes n (test_wires v n t)
+pub test_computes : (v : Wires) (n : ℕ) (t : Test) → WiresBelow n v → Computes n (test_wires v n t)
 test_computes v n (IsPresent s) b = record { runs = none_run n; grows = omega arith; wire = b.present s }
 test_computes v n (Not t) b =
     let a = test_wires v n t in

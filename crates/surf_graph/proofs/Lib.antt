@@ -20,3 +20,13 @@ pub mod StartShows
 pub mod StatusOperations
 pub mod ExpressionWires
 pub mod FurtherWires
+pub mod TickCodes
+pub mod DomainLists
+pub mod DomainStatuses
+pub mod DomainRegisters
+pub mod DomainTicks
+pub mod SpelledAmong
+pub mod SpelledRows
+pub mod KindedExpressions
+pub mod KindedOperations
+pub mod Adding

@@ -1,3 +1,5 @@
+pub mod Building
 pub mod PartSolutions
 pub mod SmallCopies
+pub mod SmallDomains
 pub mod definitions

@@ -67,6 +67,21 @@ pause_operations =
     gives 10 (wire.Const (pos 2)) ∷ gives 11 (wire.Apply1 Plus Int 10)
     ∷ gives 8 (wire.Choose 1 11 0) ∷ gives 9 (wire.And 1 3) ∷ []
 
+-- the equations of that pause
+abbrev pub pause_equations : List Equation
+pause_equations = is 8 (Status 1 1) ∷ is 9 (And 1 3) ∷ []
+
+-- the same in another order, with 50 and 51 for the further wires
+abbrev pub scattered_pause_operations : List WireEquation
+scattered_pause_operations =
+    gives 9 (wire.And 1 3) ∷ gives 8 (wire.Choose 1 51 0)
+    ∷ gives 50 (wire.Const (pos 2)) ∷ gives 51 (wire.Apply1 Plus Int 50) ∷ []
+
+-- without the status as an `int`
+abbrev pub incomplete_pause_operations : List WireEquation
+incomplete_pause_operations =
+    gives 9 (wire.And 1 3) ∷ gives 8 (wire.Choose 1 51 0) ∷ gives 50 (wire.Const (pos 2)) ∷ []
+
 -- wires 8, 11 and 13 are the statuses of the whole and of both parts; wire 10 tells that the first has ended
 abbrev pub emission_then_pause_operations : List WireEquation
 emission_then_pause_operations =

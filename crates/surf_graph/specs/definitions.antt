@@ -1,8 +1,13 @@
 pub mod Copies
+pub mod DomainCopies
+pub mod DomainTells
 pub mod Formulas
+pub mod KindedWires
+pub mod KindedFormulas
 pub mod Operations
 pub mod Shows
 pub mod Sources
+pub mod Spells
 pub mod SpelledOut
 pub mod StartingCopies
 pub mod Tells

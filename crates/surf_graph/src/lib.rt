@@ -1,16 +1,36 @@
 //! The equations of a copy of a statement, and those of its starting tick: they tell a tick of the
-//! rules.
+//! rules. What builds the operations of expressions and of statuses.
 #![tactic(auto)]
 
+mod builder;
+mod domain_laws;
+mod expression;
+mod kind_laws;
 mod laws;
 mod rows;
 mod spelling;
+mod statuses;
+mod wire_tables;
 
+pub use builder::{Builder, FIRST_FURTHER};
+pub use domain_laws::starting_domains_tell_ticks;
+pub use expression::{test, value};
+pub use kind_laws::{operations_are_well_kinded, operations_of_formulas_are_well_kinded};
 pub use laws::{
     starting_copies_tell_ticks, starting_operations_tell_ticks, starting_ticks_are_told,
     starting_ticks_are_told_by_operations,
 };
 pub use rows::{
-    starting_emission, starting_operations, starting_parallel, starting_pause, starting_sequence,
+    scattered_operations, starting_domain, starting_emission, starting_operations,
+    starting_parallel, starting_pause, starting_sequence,
 };
-pub use spelling::{expressions_on_wires_have_their_values, spelled_equations_say_the_same};
+pub use spelling::{
+    equations_are_spelled_one_by_one, equations_stay_spelled,
+    expressions_on_wires_have_their_values, spelled_equations_hold, spelled_equations_say_the_same,
+    written_equations_are_spelled,
+};
+pub use statuses::{add_combined, give_status, give_trap, give_weak_abort};
+pub use wire_tables::WireTables;
+
+#[cfg(test)]
+mod tests;

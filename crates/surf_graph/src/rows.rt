@@ -3,6 +3,7 @@
 ghost use Rattle.std.specs.Prelude.{◌≡◌, pos, true, false, [], ◌∷◌};
 ghost use Rattle.kernel_terms.specs.declared.tables.Tables.{Tables};
 ghost use Rattle.kernel_terms.specs.Statements.{Pause, Par};
+ghost use Rattle.surf_graph.specs.definitions.DomainCopies.{domain_of_copy};
 ghost use Rattle.surf_graph.specs.definitions.Formulas.{Const, And, Status};
 ghost use Rattle.surf_graph.specs.definitions.Operations.{operations};
 ghost use Rattle.surf_graph.specs.definitions.StartingCopies.{start};
@@ -13,6 +14,10 @@ ghost use Rattle.surf_graph.specs.SmallCopies.{pause_beside_emission_equations};
 ghost use Rattle.surf_graph.specs.SmallCopies.{pause_operations, emission_then_pause_operations};
 ghost use Rattle.surf_graph.specs.SmallCopies.{trapped_exit, trapped_exit_operations, aborted_pause};
 ghost use Rattle.surf_graph.specs.SmallCopies.{weak_abort_operations, strong_abort_operations};
+ghost use Rattle.surf_graph.specs.SmallDomains.{small_tables, small_statement, small_copy, small_domain_equations};
+ghost use Rattle.surf_graph.specs.SmallCopies.{pause_equations, scattered_pause_operations};
+ghost use Rattle.surf_graph.specs.SmallCopies.{incomplete_pause_operations};
+ghost use Rattle.surf_graph.specs.definitions.Spells.{Spells};
 
 /// A pause that starts has the code 1, and its register is set where it is kept.
 pub fn starting_pause()
@@ -62,4 +67,22 @@ pub fn starting_operations()
         → operations (start tables (aborted_pause true) given) ≡ weak_abort_operations }
     ensures strong_abort { (tables : Tables)
         → operations (start tables (aborted_pause false) given) ≡ strong_abort_operations }
+{}
+
+/// A domain's equations have the statuses of its signals and its next registers: that of a pause, a variable, the
+/// value of a signal, and the last value of a channel.
+pub fn starting_domain()
+    ensures equations { (domain_of_copy small_tables 0 small_statement small_copy).equations ≡
+        small_domain_equations }
+    ensures next { (domain_of_copy small_tables 0 small_statement small_copy).next ≡
+        24 ∷ 2 ∷ 7 ∷ 3 ∷ [] }
+    ensures paused { (domain_of_copy small_tables 0 small_statement small_copy).paused ≡ 17 }
+{}
+
+/// Equations are spelled among operations in another order and with other further wires, and not where one of
+/// their operations is missing or reads another wire.
+pub fn scattered_operations()
+    ensures pause { Spells pause_equations scattered_pause_operations }
+    ensures one_missing { Spells pause_equations incomplete_pause_operations → ⊥ }
+    ensures other_go { Spells (is 8 (Status 2 1) ∷ []) scattered_pause_operations → ⊥ }
 {}

@@ -1,0 +1,40 @@
+//! Laws of a domain's resuming tick.
+
+ghost use Rattle.std.specs.Prelude.{◌≡◌, ℕ, suc, ℤ, true, List, []};
+ghost use Rattle.kernel_terms.specs.declared.tables.Tables.{Tables};
+ghost use Rattle.kernel_terms.specs.MayEnd.{LoopsWait};
+ghost use Rattle.kernel_terms.specs.Statements.{Stmt};
+ghost use Rattle.kernel_terms.specs.WellFormed.{fits_statement};
+ghost use Rattle.kernel_rules.specs.definitions.LegalTick.{Inputs};
+ghost use Rattle.kernel_rules.specs.definitions.Registers.{residual, FitRegisters};
+ghost use Rattle.surf_graph.specs.definitions.DomainCopies.{domain_context, domain_of_copy};
+ghost use Rattle.surf_graph.specs.definitions.DomainTells.{DomainTells, HandsIn};
+ghost use Rattle.surf_graph.specs.definitions.Formulas.{Satisfies};
+ghost use Rattle.surf_graph.specs.definitions.Sources.{IsSource};
+ghost use Rattle.surf_graph.specs.definitions.Spells.{Spells};
+ghost use Rattle.depth_graph.specs.definitions.ResumingCopies.{resume};
+ghost use Rattle.wire_code.specs.Formulas.{Satisfies as Meets};
+ghost use Rattle.wire_code.specs.declared.equation.Equation.{Equation as Operation};
+
+/// For any values of wires that satisfy a domain's equations by the resuming copy of its statement, or
+/// operations among which these are spelled, over registers that fit it: they tell a tick of the statement
+/// that the registers stand for.
+pub fn resuming_domains_tell_ticks()
+    ensures equations { (tables : Tables) (inputs : Inputs) (d ticks : ℕ) (p : Stmt) (f w : ℕ → ℤ)
+        → IsSource tables p → LoopsWait p
+        → fits_statement tables (record { domain = d; traps = 0; locals = [] }) p ≡ true
+        → FitRegisters tables p 0 f → HandsIn tables d p (λ s. inputs s (suc ticks)) f
+        → Satisfies f w
+        (domain_of_copy tables d p (resume tables p (domain_context tables d))).equations
+        → DomainTells tables inputs d ticks p (residual tables p 0 f) f w
+        (domain_of_copy tables d p (resume tables p (domain_context tables d))) }
+    ensures operations { (tables : Tables) (inputs : Inputs) (d ticks : ℕ) (p : Stmt) (f w : ℕ → ℤ)
+        (ops : List Operation) → IsSource tables p → LoopsWait p
+        → fits_statement tables (record { domain = d; traps = 0; locals = [] }) p ≡ true
+        → FitRegisters tables p 0 f → HandsIn tables d p (λ s. inputs s (suc ticks)) f
+        → Meets f w ops
+        → Spells (domain_of_copy tables d p (resume tables p (domain_context tables d))).equations
+        ops
+        → DomainTells tables inputs d ticks p (residual tables p 0 f) f w
+        (domain_of_copy tables d p (resume tables p (domain_context tables d))) }
+{}

@@ -1,0 +1,52 @@
+-- What the wires of a domain tell of its tick.
+use Rattle.std.specs.Prelude.{◌≡◌, ℕ, suc, ℤ, pos, true, cond, List, None, Option, get_or, is_some, unwrap_or}
+use Rattle.java_values.specs.Arithmetic.{of_bool}
+use Rattle.kernel_terms.specs.declared.tables.Tables.{Tables}
+use Rattle.kernel_terms.specs.Marks.{Going, Ended}
+use Rattle.kernel_terms.specs.Statements.{Stmt}
+use Rattle.kernel_terms.specs.TableEntries.{signal_at}
+use Rattle.kernel_rules.specs.definitions.LegalTick.{DomainState, Inputs, IsLegalTick, shown_statuses}
+use Rattle.kernel_rules.specs.definitions.Registers.{variables_held, values_held, last_held}
+use Rattle.surf_graph.specs.definitions.Formulas.{is_on, told_env}
+use Rattle.surf_graph.specs.definitions.Tells.{Stands}
+use Rattle.surf_graph.specs.definitions.DomainCopies.{DomainCopy, is_input_of, input_place}
+
+-- The frame has what is handed in: of each input its presence and its value, which is the one before where it is absent.
+-- A pure input is handed in with the value 0.
+pub record HandsIn (tables : Tables) (d : ℕ) (p : Stmt) (handed : ℕ → Option ℤ) (f : ℕ → ℤ) : Type 0
+  where
+    pub present : (s : ℕ) → is_input_of d (signal_at tables s) ≡ true →
+        f (input_place tables d p s) ≡ of_bool (is_some (handed s))
+    pub value : (s : ℕ) → is_input_of d (signal_at tables s) ≡ true →
+        f (suc (input_place tables d p s)) ≡ unwrap_or (handed s) (values_held tables d p f s)
+    pub pure : (s : ℕ) → is_input_of d (signal_at tables s) ≡ true →
+        (signal_at tables s).kind ≡ None → unwrap_or (handed s) (pos 0) ≡ pos 0
+
+-- the state of a domain that goes on with this statement after so many ticks, by its registers
+abbrev pub state_read : Tables → ℕ → Stmt → Stmt → ℕ → (ℕ → ℤ) → DomainState
+state_read tables d p t ticks f = record {
+  statement = t;
+  variables = variables_held tables d p f;
+  values = values_held tables d p f;
+  last = last_held tables d p f;
+  ticks = ticks;
+  mark = Going;
+}
+
+-- the values of the wires of a list; past its end there is 0
+abbrev pub registers_told : (ℕ → ℤ) → List ℕ → ℕ → ℤ
+registers_told w wires k = w (get_or wires k 0)
+
+-- They tell a legal tick of t. The next registers stand for the state behind it, and, where the domain pauses, for its
+-- statement.
+pub record DomainTells (tables : Tables) (inputs : Inputs) (d ticks : ℕ) (p t : Stmt) (f w : ℕ → ℤ)
+    (c : DomainCopy) : Type 0 where
+  pub after : DomainState
+  pub legal : IsLegalTick tables inputs d (state_read tables d p t ticks f)
+      (shown_statuses tables d (told_env w c.wires)) after
+  pub mark : after.mark ≡ cond (is_on w c.paused) Going Ended
+  pub variables : variables_held tables d p (registers_told w c.next) ≡ after.variables
+  pub values : values_held tables d p (registers_told w c.next) ≡ after.values
+  pub last : last_held tables d p (registers_told w c.next) ≡ after.last
+  pub stands : is_on w c.paused ≡ true →
+      Stands tables p 0 (registers_told w c.next) after.statement

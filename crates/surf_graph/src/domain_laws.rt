@@ -1,0 +1,37 @@
+//! Laws of a domain's starting tick.
+
+ghost use Rattle.std.specs.Prelude.{◌≡◌, ℕ, suc, ℤ, true, List, []};
+ghost use Rattle.kernel_terms.specs.declared.tables.Tables.{Tables};
+ghost use Rattle.kernel_terms.specs.MayEnd.{LoopsWait};
+ghost use Rattle.kernel_terms.specs.Statements.{Stmt};
+ghost use Rattle.kernel_terms.specs.WellFormed.{fits_statement};
+ghost use Rattle.kernel_rules.specs.definitions.LegalTick.{Inputs};
+ghost use Rattle.surf_graph.specs.definitions.DomainCopies.{domain_context, domain_of_copy};
+ghost use Rattle.surf_graph.specs.definitions.DomainTells.{DomainTells, HandsIn};
+ghost use Rattle.surf_graph.specs.definitions.Formulas.{Satisfies};
+ghost use Rattle.surf_graph.specs.definitions.Sources.{IsSource};
+ghost use Rattle.surf_graph.specs.definitions.Spells.{Spells};
+ghost use Rattle.surf_graph.specs.definitions.StartingCopies.{start};
+ghost use Rattle.wire_code.specs.Formulas.{Satisfies as Meets};
+ghost use Rattle.wire_code.specs.declared.equation.Equation.{Equation as Operation};
+
+/// For any values of wires that satisfy a domain's equations by the starting copy of its statement, or operations
+/// among which these are spelled: they tell its first tick.
+pub fn starting_domains_tell_ticks()
+    ensures equations { (tables : Tables) (inputs : Inputs) (d ticks : ℕ) (p : Stmt) (f w : ℕ → ℤ)
+        → IsSource tables p → LoopsWait p
+        → fits_statement tables (record { domain = d; traps = 0; locals = [] }) p ≡ true
+        → HandsIn tables d p (λ s. inputs s (suc ticks)) f
+        → Satisfies f w
+        (domain_of_copy tables d p (start tables p (domain_context tables d))).equations
+        → DomainTells tables inputs d ticks p p f w
+        (domain_of_copy tables d p (start tables p (domain_context tables d))) }
+    ensures operations { (tables : Tables) (inputs : Inputs) (d ticks : ℕ) (p : Stmt) (f w : ℕ → ℤ)
+        (ops : List Operation) → IsSource tables p → LoopsWait p
+        → fits_statement tables (record { domain = d; traps = 0; locals = [] }) p ≡ true
+        → HandsIn tables d p (λ s. inputs s (suc ticks)) f → Meets f w ops
+        → Spells (domain_of_copy tables d p (start tables p (domain_context tables d))).equations
+        ops
+        → DomainTells tables inputs d ticks p p f w
+        (domain_of_copy tables d p (start tables p (domain_context tables d))) }
+{}

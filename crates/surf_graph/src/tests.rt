@@ -1,0 +1,142 @@
+use crate::builder::{Builder, FIRST_FURTHER};
+use crate::expression::{test, value};
+use crate::statuses::{add_combined, give_status, give_trap, give_weak_abort};
+use crate::wire_tables::WireTables;
+use java_values::{Kind, NoMemory, Op1, Op2};
+use kernel_terms::{Combine, Expr, ExprForm, SigTest};
+use sqlite_items::Boxed;
+use std::alloc::Global;
+use std::test::Fail;
+use wire_code::{Equation, Formula};
+
+// Variable 1 is on wire 11, signal 0 on the wires 20 (presence) and 30 (value), and channel 0 on
+// wire 40.
+fn tables(alloc: Global) -> Result<WireTables, NoMemory> {
+    Ok(WireTables {
+        variables: vec![in alloc; 10, 11]?,
+        present: vec![in alloc; 20]?,
+        value: vec![in alloc; 30]?,
+        last: vec![in alloc; 40]?,
+    })
+}
+
+fn node(alloc: Global, kind: Kind, form: ExprForm) -> Result<Boxed<Expr>, NoMemory> {
+    Ok(Boxed::new(alloc, Expr { kind, form })?)
+}
+
+// `(byte)(v - (5 + -#C))`, where v is `short`
+fn difference(alloc: Global) -> Result<Expr, NoMemory> {
+    let last = node(alloc, Kind::Int, ExprForm::Channel(0))?;
+    let minus = node(alloc, Kind::Int, ExprForm::Unary(Op1::Minus, last))?;
+    let five = node(alloc, Kind::Int, ExprForm::Literal(5))?;
+    let sum = node(alloc, Kind::Int, ExprForm::Binary(Op2::Add, five, minus))?;
+    let v = node(alloc, Kind::Short, ExprForm::Variable(1))?;
+    let difference = node(alloc, Kind::Int, ExprForm::Binary(Op2::Sub, v, sum))?;
+    Ok(Expr {
+        kind: Kind::Byte,
+        form: ExprForm::Cast(difference),
+    })
+}
+
+fn is_at(builder: &Builder, at: usize, wire: u32, formula: Formula) -> bool {
+    match builder.equations.get(at) {
+        Some(equation) => *equation == Equation { wire, formula },
+        None => false,
+    }
+}
+
+#[test]
+fn operands_come_before_their_operator(rt: HostRuntime) -> Result<(), Fail> {
+    let tables = tables(rt.alloc())?;
+    let e = difference(rt.alloc())?;
+    let mut builder = Builder::new(rt.alloc(), 50);
+    let n = FIRST_FURTHER;
+    assert_eq!(rt; value(&mut builder, &tables, &e)?, n + 4);
+    assert_eq!(rt; builder.equations.len(), 5);
+    assert!(rt; is_at(&builder, 0, n, Formula::Const(5)));
+    assert!(rt;
+        is_at(
+            &builder,
+            1,
+            n + 1,
+            Formula::Apply1(Op1::Minus, Kind::Int, 40)
+        )
+    );
+    assert!(rt;
+        is_at(
+            &builder,
+            2,
+            n + 2,
+            Formula::Apply2(Op2::Add, Kind::Int, Kind::Int, n, n + 1)
+        )
+    );
+    let sub = Formula::Apply2(Op2::Sub, Kind::Short, Kind::Int, 11, n + 2);
+    assert!(rt; is_at(&builder, 3, n + 3, sub));
+    assert!(rt;
+        is_at(
+            &builder,
+            4,
+            n + 4,
+            Formula::Cast(Kind::Int, Kind::Byte, n + 3)
+        )
+    );
+    Ok(())
+}
+
+// `!s || s`, and a signal past the table
+#[test]
+fn tests_read_presence(rt: HostRuntime) -> Result<(), Fail> {
+    let tables = tables(rt.alloc())?;
+    let alloc = rt.alloc();
+    let absent = SigTest::Not(Boxed::new(alloc, SigTest::Signal(0))?);
+    let either = SigTest::Either(
+        Boxed::new(alloc, absent)?,
+        Boxed::new(alloc, SigTest::Signal(0))?,
+    );
+    let mut builder = Builder::new(alloc, 50);
+    let n = FIRST_FURTHER;
+    assert_eq!(rt; test(&mut builder, &tables, &either)?, n + 1);
+    assert!(rt; is_at(&builder, 0, n, Formula::Not(20)));
+    assert!(rt; is_at(&builder, 1, n + 1, Formula::Or(n, 20)));
+    assert_eq!(rt; test(&mut builder, &tables, &SigTest::Signal(7))?, 0);
+    Ok(())
+}
+
+#[test]
+fn statuses_and_combinations_are_written(rt: HostRuntime) -> Result<(), Fail> {
+    let mut builder = Builder::new(rt.alloc(), 50);
+    let n = FIRST_FURTHER;
+    give_status(&mut builder, 8, 1, 2)?;
+    assert!(rt; is_at(&builder, 0, n, Formula::Const(3)));
+    assert!(rt; is_at(&builder, 1, n + 1, Formula::Apply1(Op1::Plus, Kind::Int, n)));
+    assert!(rt; is_at(&builder, 2, 8, Formula::Choose(1, n + 1, 0)));
+    give_trap(&mut builder, 9, 8)?;
+    assert_eq!(rt; builder.equations.len(), 13);
+    assert!(rt; is_at(&builder, 12, 9, Formula::Choose(n + 3, n + 8, n + 10)));
+    give_weak_abort(&mut builder, 10, 3, 9)?;
+    assert_eq!(rt; builder.equations.len(), 19);
+    assert!(rt; is_at(&builder, 18, 10, Formula::Choose(n + 13, n + 15, 9)));
+    let sum = add_combined(&mut builder, Combine::Add, Kind::Byte, 30, 31)?;
+    assert_eq!(rt; sum, n + 17);
+    assert!(rt;
+        is_at(
+            &builder,
+            20,
+            n + 17,
+            Formula::Cast(Kind::Int, Kind::Byte, n + 16)
+        )
+    );
+    let greatest = add_combined(&mut builder, Combine::Max, Kind::Byte, 30, 31)?;
+    assert!(rt; is_at(&builder, 22, greatest, Formula::Choose(n + 18, 31, 30)));
+    Ok(())
+}
+
+#[test]
+fn wires_run_out(rt: HostRuntime) -> Result<(), Fail> {
+    let mut builder = Builder::new(rt.alloc(), FIRST_FURTHER - 2);
+    assert_eq!(rt; builder.take_own(2)?, FIRST_FURTHER - 2);
+    assert!(rt; builder.take_own(1).is_err());
+    assert_eq!(rt; builder.take_further(FIRST_FURTHER - 1)?, FIRST_FURTHER);
+    assert!(rt; builder.add(Formula::Const(0)).is_err());
+    Ok(())
+}
