@@ -14,8 +14,8 @@ processor time of the whole command, with its output to /dev/null, and the least
 - loop: one domain with a loop of many statements, each fourth a pause, in many turns. Increments for each
   statement and turn; the statements are what is cut to a quarter.
 
-Seven works time reading, names too: a source of 1 MiB that is a program of the grammar, and is refused behind that for
-its names, or for its first port, an input. Increments for each byte; the goal is at most 6.
+Seven works time reading alone: a source of 1 MiB that is a program of the grammar but for its last brace, and is refused
+at its end. Increments for each byte; the goal is at most 6.
 
 - written: statements with names of some letters, one on a line, indented.
 - wide: assignments of expressions with 256 operators between names of some letters, with spaces.
@@ -129,6 +129,12 @@ def loop_work(part):
     return source, f"rr:{turns}", statements * turns
 
 
+def unended(work):
+    """A work whose source has no last brace, so that nothing is done with it behind the reading."""
+    source, turns, units = work
+    return source[:-1], turns, units - 1
+
+
 def unbuilt(part, piece, ports="", declared=""):
     """A source of this part of the greatest size: its first port is an input, and its block has these declarations and
     then these pieces."""
@@ -156,39 +162,39 @@ WRITTEN = """\
 
 
 def written_work(part):
-    return unbuilt(part, WRITTEN)
+    return unended(unbuilt(part, WRITTEN))
 
 
 def wide_work(part):
     signs = (" + ", " * ", " - ", " & ", " | ", " ^ ")
     names = ("speed", "target", "gain", "pressure", "offset")
     more = "".join(signs[n % len(signs)] + names[n % len(names)] for n in range(MOST_OPERATORS))
-    return unbuilt(part, f"level = base{more};\n")
+    return unended(unbuilt(part, f"level = base{more};\n"))
 
 
 def statements_work(part):
-    return unbuilt(part, "emit S;pause;x=y+1;send C(7);receive C;present(A&&!B){halt;}else{;}abort(A){await(B);}")
+    return unended(unbuilt(part, "emit S;pause;x=y+1;send C(7);receive C;present(A&&!B){halt;}else{;}abort(A){await(B);}"))
 
 
 def operators_work(part):
     signs = ("||", "&&", "|", "^", "&", "==", "<", "<<", "+", "*")
     more = "".join(signs[n % len(signs)] + "a" for n in range(MOST_OPERATORS))
-    return unbuilt(part, f"x=a{more};")
+    return unended(unbuilt(part, f"x=a{more};"))
 
 
 def parentheses_work(part):
     """The braces of the program and of its domain are open too."""
     count = MOST_OPEN - 2
-    return unbuilt(part, "x=" + "(" * count + "a" + ")" * count + ";")
+    return unended(unbuilt(part, "x=" + "(" * count + "a" + ")" * count + ";"))
 
 
 def comments_work(part):
-    return unbuilt(part, "/* * ** / */// to the end of the line\n")
+    return unended(unbuilt(part, "/* * ** / */// to the end of the line\n"))
 
 
 def ports_work(part):
     count = MOST_SOURCE_BYTES // part // len(signal("S000000")) - 3
-    return unbuilt(part, " ", "".join(signal(f"S{n:06d}") for n in range(count)))
+    return unended(unbuilt(part, " ", "".join(signal(f"S{n:06d}") for n in range(count))))
 
 
 def names_work(part):
@@ -222,13 +228,13 @@ WORKS = (
     ("make", "unit of weight", "", make_work),
     ("text", "byte", "", text_work),
     ("loop", "statement and turn", "", loop_work),
-    ("written", "byte", "refused Unknown", written_work),
-    ("wide", "byte", "refused Unknown", wide_work),
-    ("statements", "byte", "refused Unknown", statements_work),
-    ("operators", "byte", "refused Unknown", operators_work),
-    ("parentheses", "byte", "refused Unknown", parentheses_work),
-    ("comments", "byte", "refused Later", comments_work),
-    ("ports", "byte", "refused TooMany", ports_work),
+    ("written", "byte", "refused Syntax", written_work),
+    ("wide", "byte", "refused Syntax", wide_work),
+    ("statements", "byte", "refused Syntax", statements_work),
+    ("operators", "byte", "refused Syntax", operators_work),
+    ("parentheses", "byte", "refused Syntax", parentheses_work),
+    ("comments", "byte", "refused Syntax", comments_work),
+    ("ports", "byte", "refused Syntax", ports_work),
     ("names", "byte", "refused Later", names_work),
     ("kinds", "byte", "refused Later", kinds_work),
 )
