@@ -25,8 +25,9 @@ at its end. Increments for each byte; the goal is at most 6.
 - comments: of both forms.
 - ports: outputs, each of a name of its own.
 
-Two works time names and kinds too: a source of 1 MiB in which both are right, and that is refused for a form that isn't
-built. Increments for each byte.
+Four works time what comes behind the reading too. Increments for each byte. `named_wide` and `named_ports` are `wide` and
+`ports` with the last brace, refused for a name and for their number; the other two are right in names and kinds, and are
+refused for a form that isn't built.
 
 - names: domains with local signals in nested blocks, of names that differ in their last bytes alone; then an emission
   of each; then traps of one name, declared again and again.
@@ -165,11 +166,15 @@ def written_work(part):
     return unended(unbuilt(part, WRITTEN))
 
 
-def wide_work(part):
+def named_wide_work(part):
     signs = (" + ", " * ", " - ", " & ", " | ", " ^ ")
     names = ("speed", "target", "gain", "pressure", "offset")
     more = "".join(signs[n % len(signs)] + names[n % len(names)] for n in range(MOST_OPERATORS))
-    return unended(unbuilt(part, f"level = base{more};\n"))
+    return unbuilt(part, f"level = base{more};\n")
+
+
+def wide_work(part):
+    return unended(named_wide_work(part))
 
 
 def statements_work(part):
@@ -192,9 +197,13 @@ def comments_work(part):
     return unended(unbuilt(part, "/* * ** / */// to the end of the line\n"))
 
 
-def ports_work(part):
+def named_ports_work(part):
     count = MOST_SOURCE_BYTES // part // len(signal("S000000")) - 3
-    return unended(unbuilt(part, " ", "".join(signal(f"S{n:06d}") for n in range(count))))
+    return unbuilt(part, " ", "".join(signal(f"S{n:06d}") for n in range(count)))
+
+
+def ports_work(part):
+    return unended(named_ports_work(part))
 
 
 def names_work(part):
@@ -235,6 +244,8 @@ WORKS = (
     ("parentheses", "byte", "refused Syntax", parentheses_work),
     ("comments", "byte", "refused Syntax", comments_work),
     ("ports", "byte", "refused Syntax", ports_work),
+    ("named_wide", "byte", "refused Unknown", named_wide_work),
+    ("named_ports", "byte", "refused TooMany", named_ports_work),
     ("names", "byte", "refused Later", names_work),
     ("kinds", "byte", "refused Later", kinds_work),
 )
