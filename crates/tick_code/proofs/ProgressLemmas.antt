@@ -213,25 +213,22 @@ few_so_far es i now t w p low none =
     let size : length (e ∷ p.front) ≡ i + 1 = omega (arith, p.size) in
     omega (arith, few, size)
 
-ends_in : (es front rest now : List Equation) (r : ℕ → ℕ) → es ≡ front ++ rest → now ≡ renamed_equations r front ++ rest → IsNumbering r 0 front → ReadsGiven [] front → length rest ≡ 0 → AreNumbered es now
+ends_in : (es front rest now : List Equation) (r : ℕ → ℕ) → es ≡ front ++ rest → now ≡ renamed_equations r front ++ rest → IsNumbering r 0 front → ReadsGiven [] front → length rest ≡ 0 → AreNumbered r es now
 ends_in es front [] now r whole list numbers reads none =
     let same : es ≡ front = whole ∙ append-nil front in
     record {
-      numbered = record {
-        renaming = r;
-        numbers = subst (IsNumbering r 0) (sym same) numbers;
-        reads = subst (ReadsGiven []) (sym same) reads;
-      };
+      numbers = subst (IsNumbering r 0) (sym same) numbers;
+      reads = subst (ReadsGiven []) (sym same) reads;
       equations = list ∙ append-nil (renamed_equations r front) ∙ ap (renamed_equations r) (sym same);
     }
 ends_in es front (x ∷ xs) now r whole list numbers reads none = absurd (omega (arith, none))
 
-pub ends : (es : List Equation) (i : ℕ) (now : List Equation) (t : ℕ → Option ℕ) → Progress es i now t → length now ≤ i → AreNumbered es now
+pub ends : (es : List Equation) (i : ℕ) (now : List Equation) (t : ℕ → Option ℕ) → Progress es i now t → length now ≤ i → AreNumbered (renaming_of t) es now
 ends es i now t p le =
     let size : length now ≡ length p.front + length p.rest =
     ap length p.list ∙ length_renamed (renaming_of t) p.front p.rest in
     ends_in es p.front p.rest now (renaming_of t) p.whole p.list p.numbers p.reads (omega (arith, size, le, p.size))
 
-pub numbered_are_ordered : (old new : List Equation) → AreNumbered old new → IsOrdered 0 new
-numbered_are_ordered old new a =
-    subst (IsOrdered 0) (sym a.equations) (ordered_from_zero a.numbered.renaming old a.numbered.numbers a.numbered.reads)
+pub numbered_are_ordered : (r : ℕ → ℕ) (old new : List Equation) → AreNumbered r old new → IsOrdered 0 new
+numbered_are_ordered r old new a =
+    subst (IsOrdered 0) (sym a.equations) (ordered_from_zero r old a.numbers a.reads)

@@ -19,7 +19,8 @@ pub use code::Code;
 pub use end_place::EndPlace;
 pub use laws::{numbered_equations_are_well_kinded, solutions_lie_in_their_classes};
 pub use layout::Layout;
-pub use numbering::{NumberingError, number_wires};
+pub use numbering::{NumberedCode, NumberingError, number_wires};
+pub use numbers::Numbers;
 pub use rows::{classes_of_choices, classes_of_operations, operands_of_a_kind, safe_divisors};
 pub use wire_counts::WireCounts;
 

@@ -80,8 +80,8 @@ fn number_next(equation: Equation, next: usize, numbers: &mut Numbers) -> Option
 fn number_all(equations: &mut Vec<Equation>, numbers: &mut Numbers) -> bool
     requires empty { (k : ℕ) → number_of numbers.old k ≡ None }
     requires places { All (λ e. HasPlace numbers.old e.wire) equations.old.items }
-    ensures { MatchBool result (AreNumbered equations.old.items equations.new.items)
-        (Numbered equations.old.items → ⊥) }
+    ensures { MatchBool result (AreNumbered (renaming_of (number_of numbers.new))
+        equations.old.items equations.new.items) (Numbered equations.old.items → ⊥) }
 {
     for next in 0..equations.len() {
         let equation = equations[next];
@@ -93,20 +93,29 @@ fn number_all(equations: &mut Vec<Equation>, numbers: &mut Numbers) -> bool
     true
 }
 
+/// A code, and the new numbers of the wires of its equations.
+#[derive(Drop)]
+pub struct NumberedCode {
+    pub code: Code,
+    pub numbers: Numbers,
+}
+
 /// The code of equations whose wires two counters gave: each wire is renamed to the place of its
 /// equation. Takes memory for two tables alone, with a place for each wire that the counters gave.
 pub fn number_wires(
     alloc: Global,
     mut equations: Vec<Equation>,
     counts: WireCounts,
-) -> Result<Code, NumberingError>
+) -> Result<NumberedCode, NumberingError>
     requires { All (λ e. IsCounted counts.low counts.high e.wire) equations.items }
-    ensures code { IfOk result (λ code. AreNumbered equations.items code) }
+    ensures code { IfOk result (λ n.
+        AreNumbered (renaming_of (number_of n.numbers)) equations.items n.code) }
     ensures unordered { result ≡ Err NumberingError.Unordered → Numbered equations.items → ⊥ }
 {
     let mut numbers = Numbers::new(alloc, counts)?;
     if number_all(&mut equations, &mut numbers) {
-        Ok(Code::of_ordered(equations))
+        let code = Code::of_ordered(equations);
+        Ok(NumberedCode { code, numbers })
     } else {
         Err(NumberingError::Unordered)
     }

@@ -21,8 +21,10 @@ fn wires_of_both_counters_are_numbered(rt: HostRuntime) -> Result<(), Fail> {
         is(FURTHER, Formula::Not(1)),
         is(0, Formula::Choose(FURTHER, 1, FURTHER)),
     ]?;
-    let code = number_wires(rt.alloc(), equations, counts)?;
-    assert_eq!(rt; code.len(), 3);
+    let numbered = number_wires(rt.alloc(), equations, counts)?;
+    assert_eq!(rt; numbered.code.len(), 3);
+    assert_eq!(rt; numbered.numbers.renamed(FURTHER), 1);
+    assert_eq!(rt; numbered.numbers.get(FURTHER + 1), None);
     Ok(())
 }
 

@@ -1,7 +1,7 @@
 //! New numbers of wires.
 
 ghost use Rattle.std.specs.Prelude.{◌≡◌, ◌≢◌, ℕ, Option, Some, None, IfOk, slice_index_or};
-ghost use Rattle.tick_code.specs.Numbers.{number_of, HasPlace, HavePlaces, IsFresh};
+ghost use Rattle.tick_code.specs.Numbers.{number_of, renaming_of, HasPlace, HavePlaces, IsFresh};
 
 use crate::wire_counts::WireCounts;
 use java_values::NoMemory;
@@ -27,7 +27,7 @@ fn entry(table: &[Option<u32>], place: u32) -> Option<u32>
 
 impl Numbers {
     /// Tables for so many wires, of which none has a new number yet.
-    pub fn new(alloc: Global, counts: WireCounts) -> Result<Numbers, NoMemory>
+    pub(crate) fn new(alloc: Global, counts: WireCounts) -> Result<Numbers, NoMemory>
         ensures { IfOk result (λ n. IsFresh counts.low counts.high n) }
     {
         let low = vec![in alloc; None; counts.low as usize]?;
@@ -35,6 +35,7 @@ impl Numbers {
         Ok(Numbers { low, high })
     }
 
+    /// The new number of a wire, if it has one.
     pub fn get(&self, wire: u32) -> Option<u32>
         ensures { result ≡ number_of self.now wire }
     {
@@ -45,8 +46,15 @@ impl Numbers {
         }
     }
 
+    /// The new number of a wire that has one, and 0 for any other.
+    pub fn renamed(&self, wire: u32) -> u32
+        ensures { result ≡ renaming_of (number_of self.now) wire }
+    {
+        self.get(wire).unwrap_or(0)
+    }
+
     /// Gives the wire this number.
-    pub fn set(&mut self, wire: u32, number: u32)
+    pub(crate) fn set(&mut self, wire: u32, number: u32)
         requires { HasPlace self.old wire }
         ensures own { number_of self.new wire ≡ Some number }
         ensures others { (k : ℕ) → k ≢ wire → number_of self.new k ≡ number_of self.old k }
