@@ -33,8 +33,8 @@ pub record FoldKinded (tables : Tables) (frame : List Kind) (k : Kind) (b : Bool
   pub classes : ℕ → Class
   pub same : SameBelow n c classes
   pub each : HaveKinds tables frame classes r.equations
-  pub some : classes r.some ≡ cond b (Of kind.Boolean) (c some)
-  pub value : classes r.value ≡ cond b (Of k) (c value)
+  pub some_is : classes r.some ≡ cond b (Of kind.Boolean) (c some)
+  pub value_is : classes r.value ≡ cond b (Of k) (c value)
 
 one_class : (b : Bool) (x : Class) → cond b x x ≡ x
 one_class true x = refl
@@ -70,8 +70,8 @@ step_kinded tables frame info b n some value c e r ls lv lc le fs fv one choice 
           ((fits_still kind.Boolean n c d some s ls fs, fits_still kind.Boolean n c d e.condition s lc fc, at2), h.each),
         ),
       );
-      some = h.some ∙ ap (λ z. cond b (Of kind.Boolean) z) (listed_at c n 2 xs) ∙ one_class b (Of kind.Boolean);
-      value = h.value ∙ ap (λ z. cond b (Of k) z) (listed_at c n 1 xs) ∙ one_class b (Of k);
+      some_is = h.some_is ∙ ap (λ z. cond b (Of kind.Boolean) z) (listed_at c n 2 xs) ∙ one_class b (Of kind.Boolean);
+      value_is = h.value_is ∙ ap (λ z. cond b (Of k) z) (listed_at c n 1 xs) ∙ one_class b (Of k);
     }
 
 pick_fold : (tables : Tables) (frame : List Kind) (k : Kind) (t b : Bool) (n some value : ℕ) (c : ℕ → Class) (r q : Folded) → (t ≡ true → FoldKinded tables frame k true n some value c r) → FoldKinded tables frame k b n some value c q → FoldKinded tables frame k (t || b) n some value c (cond t r q)
@@ -80,7 +80,7 @@ pick_fold tables frame k false b n some value c r q h i = i
 
 pub fold_kinded : (tables : Tables) (frame : List Kind) (info : SignalInfo) (s n some value : ℕ) (es : List Emits) (c : ℕ → Class) → value_kind info ≡ value_kind (signal_at tables s) → EmitsBelow n es → some < n → value < n → Fits kind.Boolean (c some) → Fits (value_kind info) (c value)
     → combines (Some (value_kind info)) info.combine ≡ true → (is_choice info.combine ≡ true → c value ≡ Of (value_kind info)) → EmissionsFit tables c es → FoldKinded tables frame (value_kind info) (emits_signal s es) n some value c (fold_emits info s n some value es)
-fold_kinded tables frame info s n some value [] c ek b ls lv fs fv one choice h = record { classes = c; same = same_itself n c; each = tt; some = refl; value = refl }
+fold_kinded tables frame info s n some value [] c ek b ls lv fs fv one choice h = record { classes = c; same = same_itself n c; each = tt; some_is = refl; value_is = refl }
 fold_kinded tables frame info s n some value (e ∷ es) c ek b ls lv fs fv one choice h =
     let k = value_kind info in
     let xs : List Class = Of k ∷ Of k ∷ Of kind.Boolean ∷ [] in
@@ -175,10 +175,10 @@ local_context_fits tables scope s b c d x o w h =
 
 without_fits : (tables : Tables) (d : ℕ → Class) (s : ℕ) (es : List Emits) → EmissionsFit tables d es → EmissionsFit tables d (emits_without s es)
 without_fits tables d s [] h = tt
-without_fits tables d s (e ∷ es) h = pick (e.signal == s) where
-  pick : (t : Bool) → EmissionsFit tables d (cond t (emits_without s es) (e ∷ emits_without s es))
-  pick true = without_fits tables d s es h.1
-  pick false = (h.0, without_fits tables d s es h.1)
+without_fits tables d s (e ∷ es) h = pick (e.signal == s) (without_fits tables d s es h.1) where
+  pick : (t : Bool) → EmissionsFit tables d (emits_without s es) → EmissionsFit tables d (cond t (emits_without s es) (e ∷ emits_without s es))
+  pick true i = i
+  pick false i = (h.0, i)
 
 -- the register of a local signal, if it has one
 own_register : (frame : List Kind) (o : Option Kind) (r k : ℕ) → HasRegisters frame r (value_kinds o) → r ≤ k → k < r + length (value_kinds o) → o ≡ Some (register_kind frame k)
@@ -216,8 +216,8 @@ local_kinded tables frame scope m s y last c x a each o g regs hl fy u h =
     let at5 = we.at 5 (omega arith) in
     let keep = fits_still kind.Boolean n c e x.keep v o.keep g.keep in
     let r = fold_emits i2 s a.next 0 (n + 2) a.emits in
-    let some_is : e r.some ≡ cond b (Of kind.Boolean) (Constant (pos 0)) = q.some ∙ ap (λ t. cond b (Of kind.Boolean) t) z0 in
-    let value_is : e r.value ≡ cond b (Of (unwrap_or ok kind.Boolean)) (last_class ok) = q.value ∙ ap (λ t. cond b (Of t) (d (n + 2))) values ∙ ap (λ t. cond b (Of (unwrap_or ok kind.Boolean)) t) (w.at 2 (omega arith)) in
+    let some_is : e r.some ≡ cond b (Of kind.Boolean) (Constant (pos 0)) = q.some_is ∙ ap (λ t. cond b (Of kind.Boolean) t) z0 in
+    let value_is : e r.value ≡ cond b (Of (unwrap_or ok kind.Boolean)) (last_class ok) = q.value_is ∙ ap (λ t. cond b (Of t) (d (n + 2))) values ∙ ap (λ t. cond b (Of (unwrap_or ok kind.Boolean)) t) (w.at 2 (omega arith)) in
     record {
       classes = e;
       same = v;
