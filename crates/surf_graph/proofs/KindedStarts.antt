@@ -218,11 +218,11 @@ assign_kinded tables frame scope y e c x h l given =
     }
 
 -- by the place of a register
-one_or_other : (k : Kind) (d : ℕ → Class) (b : Bool) (ss ts : List Sets) → (b ≡ true → SetsFit k d ss) → (b ≡ false → SetsFit k d ts) → SetsFit k d (cond b ss ts)
+pub one_or_other : (k : Kind) (d : ℕ → Class) (b : Bool) (ss ts : List Sets) → (b ≡ true → SetsFit k d ss) → (b ≡ false → SetsFit k d ts) → SetsFit k d (cond b ss ts)
 one_or_other k d true ss ts h i = h refl
 one_or_other k d false ss ts h i = i refl
 
-is_same : (a b : ℕ) → (a == b) ≡ true → a ≡ b
+pub is_same : (a b : ℕ) → (a == b) ≡ true → a ≡ b
 is_same a b e = eqb-true a b e
 
 send_kinded : (tables : Tables) (frame : List Kind) (scope : Scope) (ch : ℕ) (e : Expression) (c : ℕ → Class) (x : Context) → fits_statement tables scope (Send ch e) ≡ true → has_literal_divisors e ≡ true → Given tables frame scope c (Send ch e) x
@@ -486,7 +486,7 @@ first_has tables frame None d = refl
 first_has tables frame (Some k) d = refl
 
 -- the operands of a scope with one trap more
-trap_fits : (tables : Tables) (scope : Scope) (c : ℕ → Class) (x : Context) → ContextFits tables scope c x → ContextFits tables (record scope { traps = suc scope.traps }) c x
+pub trap_fits : (tables : Tables) (scope : Scope) (c : ℕ → Class) (x : Context) → ContextFits tables scope c x → ContextFits tables (record scope { traps = suc scope.traps }) c x
 trap_fits tables scope c x h =
     let f = h.operands in
     let v = h.variables in
