@@ -6,3 +6,4 @@ pub mod ResumeActive
 pub mod ResumeInside
 pub mod ResumeRests
 pub mod ResumeShows
+pub mod KindedResumes

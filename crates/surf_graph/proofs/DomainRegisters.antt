@@ -1,6 +1,6 @@
 -- A domain's next registers, as its wires tell them.
 use Rattle.std.proofs.Common.{◌≡◌, ℕ, zero, suc, ◌+◌, ◌<◌, ◌==◌, nat_lt, ℤ, pos, true, ◌&&◌, cond, List, [], ◌∷◌, ◌++◌, length, map, get_or, refl, sym, ap, ◌∙◌, arith}
-use Rattle.std.proofs.lemmas.List.{length-map}
+use Rattle.std.proofs.lemmas.List.{get_or-map, length-append, length-map}
 use Rattle.std.proofs.lemmas.Bool.{true≢false}
 use Rattle.std.proofs.lemmas.Bool.Decides.{nat_tests}
 use Rattle.java_values.specs.declared.kind.Kind.{Kind}
@@ -8,9 +8,9 @@ use Rattle.java_values.specs.declared.kind.Kind.TheVariants as kind
 use Rattle.kernel_terms.specs.declared.tables.Tables.{Tables}
 use Rattle.kernel_terms.specs.declared.tables.VariableInfo.{VariableInfo}
 use Rattle.kernel_terms.specs.Statements.{Stmt, Nothing, Pause, Emit, Assign, If, Present, Seq, Loop, Par, Trap, Exit, Abort, Suspend, Local, Send, Receive, SendWaits, Sent, ReceiveWaits, Received}
-use Rattle.kernel_terms.specs.TableEntries.{variables_of, valued_of, received_by, variable_at, no_variable}
+use Rattle.kernel_terms.specs.TableEntries.{value_kind, signal_at, channel_at, variables_of, valued_of, received_by, variable_at, no_variable}
 use Rattle.kernel_terms.specs.WellFormed.{Scope, fits_statement, fits_test, is_given, is_local_of, is_variable_of}
-use Rattle.kernel_rules.specs.definitions.Registers.{statement_registers, registers, first_variable, first_value, first_last, variables_held, values_held, last_held}
+use Rattle.kernel_rules.specs.definitions.Registers.{statement_registers, domain_registers, registers, first_variable, first_value, first_last, variables_held, values_held, last_held}
 use Rattle.kernel_rules.specs.definitions.TickRule.{writes}
 use Rattle.surf_graph.proofs.Booleans.{left_of, right_of, either_true}
 use Rattle.surf_graph.specs.definitions.Formulas.{Satisfies, is_on}
@@ -102,10 +102,40 @@ module _ (tables : Tables) (d : ℕ) (p : Stmt) (w : ℕ → ℤ) (sets : ℕ �
   abbrev all : List ℕ
   all = own ++ (of_variables ++ (of_values ++ of_channels))
 
+  -- one for each register
+  size : length all ≡ registers tables p + (length (variables_of tables d) + (length (valued_of tables d) + length (received_by tables d)))
+  size =
+      let n = as_many (statement_registers tables p) 0 m sets in
+      let v = length-map (variables_of tables d) variables in
+      let u = length-map (valued_of tables d) values in
+      let c = length-map (received_by tables d) last in
+      let x = length-append own (of_variables ++ (of_values ++ of_channels)) in
+      let y = length-append of_variables (of_values ++ of_channels) in
+      let z = length-append of_values of_channels in
+      omega (arith, n, v, u, c, x, y, z)
+
+  pub counted : length all ≡ length (domain_registers tables d p)
+  counted =
+      let ks = map (λ x. (variable_at tables x).kind) (variables_of tables d) in
+      let ls = map (λ s. value_kind (signal_at tables s)) (valued_of tables d) in
+      let ms = map (λ c. (channel_at tables c).kind) (received_by tables d) in
+      let e = size in
+      let v = length-map (variables_of tables d) (λ x. (variable_at tables x).kind) in
+      let u = length-map (valued_of tables d) (λ s. value_kind (signal_at tables s)) in
+      let c = length-map (received_by tables d) (λ h. (channel_at tables h).kind) in
+      let x = length-append (statement_registers tables p) (ks ++ (ls ++ ms)) in
+      let y = length-append ks (ls ++ ms) in
+      let z = length-append ls ms in
+      omega (arith, e, v, u, c, x, y, z)
+
+  told_at : (k : ℕ) → k < length all → registers_told w all k ≡ w (get_or all k 0)
+  told_at k less = get_or-map w all k 0 (pos 0) less
+
   pub statement_told : (f : ℕ → ℤ) (k : ℕ) → k < registers tables p → Satisfies f w (register_equations (statement_registers tables p) 0 m sets) → registers_told w all k ≡ registers_set w sets k
   statement_told f k less h =
       let n = as_many (statement_registers tables p) 0 m sets in
-      ap w (get_front own (of_variables ++ (of_values ++ of_channels)) k (omega (arith, less, n))) ∙ sets_told f w (statement_registers tables p) 0 m sets k less h
+      let e = size in
+      told_at k (omega (arith, less, e)) ∙ ap w (get_front own (of_variables ++ (of_values ++ of_channels)) k (omega (arith, less, n))) ∙ sets_told f w (statement_registers tables p) 0 m sets k less h
       ∙ ap (λ j. set_value w (sets j)) (omega arith)
 
   pub variables_told : (x : ℕ) → variables_held tables d p (registers_told w all) x ≡ cond (has (variables_of tables d) x) (w (variables x)) (pos 0)
@@ -114,7 +144,8 @@ module _ (tables : Tables) (d : ℕ) (p : Stmt) (w : ℕ → ℤ) (sets : ℕ �
       (λ i less.
       let n = as_many (statement_registers tables p) 0 m sets in
       let l = length-map (variables_of tables d) variables in
-      ap w (get_back own (of_variables ++ (of_values ++ of_channels)) (first_variable tables p + i) i (omega (arith, n))
+      let e = size in
+      told_at (first_variable tables p + i) (omega (arith, less, e)) ∙ ap w (get_back own (of_variables ++ (of_values ++ of_channels)) (first_variable tables p + i) i (omega (arith, n))
       ∙ get_front of_variables (of_values ++ of_channels) i (omega (arith, less, l))))
 
   pub values_told : (x : ℕ) → values_held tables d p (registers_told w all) x ≡ cond (has (valued_of tables d) x) (w (values x)) (pos 0)
@@ -124,7 +155,8 @@ module _ (tables : Tables) (d : ℕ) (p : Stmt) (w : ℕ → ℤ) (sets : ℕ �
       let n = as_many (statement_registers tables p) 0 m sets in
       let v = length-map (variables_of tables d) variables in
       let l = length-map (valued_of tables d) values in
-      ap w (get_back own (of_variables ++ (of_values ++ of_channels)) (first_value tables d p + i) (length of_variables + i) (omega (arith, n, v))
+      let e = size in
+      told_at (first_value tables d p + i) (omega (arith, less, e)) ∙ ap w (get_back own (of_variables ++ (of_values ++ of_channels)) (first_value tables d p + i) (length of_variables + i) (omega (arith, n, v))
       ∙ get_back of_variables (of_values ++ of_channels) (length of_variables + i) i refl
       ∙ get_front of_values of_channels i (omega (arith, less, l))))
 
@@ -135,6 +167,7 @@ module _ (tables : Tables) (d : ℕ) (p : Stmt) (w : ℕ → ℤ) (sets : ℕ �
       let n = as_many (statement_registers tables p) 0 m sets in
       let v = length-map (variables_of tables d) variables in
       let l = length-map (valued_of tables d) values in
-      ap w (get_back own (of_variables ++ (of_values ++ of_channels)) (first_last tables d p + i) (length of_variables + (length of_values + i)) (omega (arith, n, v, l))
+      let e = size in
+      told_at (first_last tables d p + i) (omega (arith, less, e)) ∙ ap w (get_back own (of_variables ++ (of_values ++ of_channels)) (first_last tables d p + i) (length of_variables + (length of_values + i)) (omega (arith, n, v, l))
       ∙ get_back of_variables (of_values ++ of_channels) (length of_variables + (length of_values + i)) (length of_values + i) refl
       ∙ get_back of_values of_channels (length of_values + i) i refl))

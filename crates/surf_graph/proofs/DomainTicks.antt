@@ -32,7 +32,7 @@ use Rattle.surf_graph.proofs.Locals.{fold_zero}
 use Rattle.surf_graph.proofs.TickCodes.{ExitsInside, tick_code}
 use Rattle.surf_graph.proofs.DomainLists.{read_places, not_held}
 use Rattle.surf_graph.proofs.DomainStatuses.{told_statuses, valued_has, pure_has_none, foreign_has_none, pure_before}
-use Rattle.surf_graph.proofs.DomainRegisters.{statement_told, variables_told, values_told, last_told}
+use Rattle.surf_graph.proofs.DomainRegisters.{counted, statement_told, variables_told, values_told, last_told}
 
 by_cases : {C : Type 0} (b : Bool) → (b ≡ true → C) → (b ≡ false → C) → C
 by_cases true f g = f refl
@@ -218,6 +218,7 @@ domain_tells tables inputs d ticks p t f w a exits own given says regs active =
         next = refl;
       };
       mark = small_codes o.code code (has_paused o.code) refl ∙ ap (λ b. cond b Going Ended) (sym pauses);
+      count = counted tables d p w a.sets m a.variables (domain_wires tables d).value (domain_wires tables d).last;
       variables = fun_ext (λ y. variables_told tables d p w a.sets m a.variables (domain_wires tables d).value (domain_wires tables d).last y ∙ variables_after tables d p t f w last env a.variables o own ticks_told tells.variables y);
       values = fun_ext (λ s. values_told tables d p w a.sets m a.variables (domain_wires tables d).value (domain_wires tables d).last s ∙ values_are tables d p (λ r. inputs r (suc ticks)) f w (emitted w a.emits) given pure coherent s);
       last = fun_ext (λ c. last_told tables d p w a.sets m a.variables (domain_wires tables d).value (domain_wires tables d).last c ∙ last_are tables d p f w says.last c);

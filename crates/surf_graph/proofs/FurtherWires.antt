@@ -170,7 +170,7 @@ weak_abort_runs n t a y x =
       size = omega arith;
     }
 
-spelled_runs : (n : ℕ) (i : Formula) → Reads n i → Runs n (spelled n i).equations (spelled n i).next
+pub spelled_runs : (n : ℕ) (i : Formula) → Reads n i → Runs n (spelled n i).equations (spelled n i).next
 spelled_runs n (Const m) r = none_run n
 spelled_runs n (Get k) r = none_run n
 spelled_runs n (Same a) r = none_run n

@@ -27,7 +27,7 @@ use Rattle.surf_graph.proofs.FurtherWires.{Computes, value_computes, test_comput
 
 -- kinds that are the same
 
-same_kind_is : (a b : Kind) → same_kind a b ≡ true → a ≡ b
+pub same_kind_is : (a b : Kind) → same_kind a b ≡ true → a ≡ b
 same_kind_is kind.Boolean kind.Boolean h = refl
 same_kind_is kind.Boolean kind.Byte h = cc
 same_kind_is kind.Boolean kind.Short h = cc
@@ -65,7 +65,7 @@ same_kind_is kind.Long kind.Char h = cc
 same_kind_is kind.Long kind.Int h = cc
 same_kind_is kind.Long kind.Long h = refl
 
-of_kind_is : (o : Option Kind) (k : Kind) → is_of_kind o k ≡ true → o ≡ Some k
+pub of_kind_is : (o : Option Kind) (k : Kind) → is_of_kind o k ≡ true → o ≡ Some k
 of_kind_is None k h = cc
 of_kind_is (Some l) k h = ap Some (same_kind_is l k h)
 
@@ -81,12 +81,12 @@ put_here c n d = ap (λ b. cond b d (c n)) (eq-eqb n n refl)
 put_below : (c : ℕ → Class) (n : ℕ) (d : Class) → SameBelow n c (put_at c n d)
 put_below c n d = record { at = λ k less. ap (λ b. cond b d (c k)) (ne_eqb k n (λ e. omega (arith, less, e))) }
 
-same_twice : (n m : ℕ) (c d e : ℕ → Class) → n ≤ m → SameBelow n c d → SameBelow m d e → SameBelow n c e
+pub same_twice : (n m : ℕ) (c d e : ℕ → Class) → n ≤ m → SameBelow n c d → SameBelow m d e → SameBelow n c e
 same_twice n m c d e le h k = record { at = λ i less. k.at i (omega (arith, le, less)) ∙ h.at i less }
 
 -- operations keep their classes where the classes below them stay
 
-has_still : (frame : List Kind) (all : List Equation) (n : ℕ) (c d : ℕ → Class) (g : Operation) (x : Class) → SameBelow n c d → ReadsBelow n g → HasClass frame all c g x → HasClass frame all d g x
+pub has_still : (frame : List Kind) (all : List Equation) (n : ℕ) (c d : ℕ → Class) (g : Operation) (x : Class) → SameBelow n c d → ReadsBelow n g → HasClass frame all c g x → HasClass frame all d g x
 has_still frame all n c d (wire.Const m) x s r h = h
 has_still frame all n c d (wire.Get k) x s r h = h
 has_still frame all n c d (wire.And a b) x s r h = (subst (Fits kind.Boolean) (sym (s.at a r.0)) h.0, subst (Fits kind.Boolean) (sym (s.at b r.1)) h.1, h.2)
@@ -98,7 +98,7 @@ has_still frame all n c d (wire.Cast k l a) x s r h = (subst (Fits k) (sym (s.at
 has_still frame all n c d (wire.Choose t a b) x s r h =
     (subst (Fits kind.Boolean) (sym (s.at t r.0)) h.0, subst (λ y. IsEither y (d b) x) (sym (s.at a r.1)) (subst (λ y. IsEither (c a) y x) (sym (s.at b r.2)) h.1))
 
-still_classed : (frame : List Kind) (all : List Equation) (n m : ℕ) (c d : ℕ → Class) (es : List Equation) → IsOrdered n es → n + length es ≡ m → SameBelow m c d → HaveClasses frame all c es → HaveClasses frame all d es
+pub still_classed : (frame : List Kind) (all : List Equation) (n m : ℕ) (c d : ℕ → Class) (es : List Equation) → IsOrdered n es → n + length es ≡ m → SameBelow m c d → HaveClasses frame all c es → HaveClasses frame all d es
 still_classed frame all n m c d [] o e s h = tt
 still_classed frame all n m c d (i ∷ es) o e s h =
     let w = o.0 in
@@ -107,11 +107,11 @@ still_classed frame all n m c d (i ∷ es) o e s h =
       still_classed frame all (n + 1) m c d es o.2 (omega (arith, e)) s h.1,
     )
 
-classed_both : (frame : List Kind) (all : List Equation) (c : ℕ → Class) (es ds : List Equation) → HaveClasses frame all c es → HaveClasses frame all c ds → HaveClasses frame all c (es ++ ds)
+pub classed_both : (frame : List Kind) (all : List Equation) (c : ℕ → Class) (es ds : List Equation) → HaveClasses frame all c es → HaveClasses frame all c ds → HaveClasses frame all c (es ++ ds)
 classed_both frame all c [] ds h k = k
 classed_both frame all c (e ∷ es) ds h k = (h.0, classed_both frame all c es ds h.1 k)
 
-operands_still : (tables : Tables) (scope : Scope) (n : ℕ) (c d : ℕ → Class) (v : Wires) → WiresBelow n v → SameBelow n c d → OperandsFit tables scope c v → OperandsFit tables scope d v
+pub operands_still : (tables : Tables) (scope : Scope) (n : ℕ) (c d : ℕ → Class) (v : Wires) → WiresBelow n v → SameBelow n c d → OperandsFit tables scope c v → OperandsFit tables scope d v
 operands_still tables scope n c d v b s h = record {
   variables = λ x own. subst (Fits (variable_at tables x).kind) (sym (s.at (v.variables x) (b.variables x))) (h.variables x own);
   present = λ x may. subst (Fits kind.Boolean) (sym (s.at (v.present x) (b.present x))) (h.present x may);
@@ -130,10 +130,10 @@ gives_back : (es ds : List Equation) (w : ℕ) (f : Operation) → Gives ds w f 
 gives_back [] ds w f h = h
 gives_back (e ∷ es) ds w f h = inr (gives_back es ds w f h)
 
-among_front : (es ds all : List Equation) → Among (es ++ ds) all → Among es all
+pub among_front : (es ds all : List Equation) → Among (es ++ ds) all → Among es all
 among_front es ds all h w f g = h w f (gives_front es ds w f g)
 
-among_back : (es ds all : List Equation) → Among (es ++ ds) all → Among ds all
+pub among_back : (es ds all : List Equation) → Among (es ++ ds) all → Among ds all
 among_back es ds all h w f g = h w f (gives_back es ds w f g)
 
 -- one operation behind a computation

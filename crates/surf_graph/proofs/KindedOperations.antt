@@ -53,7 +53,7 @@ either_same (Constant m) y e = (refl, e)
 pub either_kind : (k : Kind) (x y : Class) → Fits k x → y ≡ Of k → IsEither (Of k) x y
 either_kind k x y h e = (h, e)
 
-either_as : (x y u v z : Class) → u ≡ x → v ≡ y → IsEither x y z → IsEither u v z
+pub either_as : (x y u v z : Class) → u ≡ x → v ≡ y → IsEither x y z → IsEither u v z
 either_as x y u v z e f h = subst (λ s. IsEither s v z) (sym e) (subst (λ s. IsEither x s z) (sym f) h)
 
 castable_to_itself : (k : Kind) → is_castable k k ≡ true
@@ -87,7 +87,7 @@ operator_kinded frame all k o n c a b la lb fa fb is castable safe =
       wire = second;
     }
 
-either_other : (k : Kind) (x y : Class) → Fits k x → y ≡ Of k → IsEither x y (Of k)
+pub either_other : (k : Kind) (x y : Class) → Fits k x → y ≡ Of k → IsEither x y (Of k)
 either_other k (Of l) y h e = (subst (Fits l) (sym e) (sym h), ap Of (sym h))
 either_other k (Constant m) y h e = subst (λ z. IsEither (Constant m) z (Of k)) (sym e) (h, refl)
 
@@ -148,7 +148,7 @@ combined_kinded frame all combine.Xor kind.Char n c a b la lb fa fb h one = oper
 combined_kinded frame all combine.Xor kind.Int n c a b la lb fa fb h one = operator_kinded frame all kind.Int op.Xor n c a b la lb fa fb refl refl tt
 combined_kinded frame all combine.Xor kind.Long n c a b la lb fa fb h one = operator_kinded frame all kind.Long op.Xor n c a b la lb fa fb refl refl tt
 
-combined_at : (o : Combine) (k : Kind) (n a b : ℕ) → (combined_wires o k n a b).wire ≡ n + 1
+pub combined_at : (o : Combine) (k : Kind) (n a b : ℕ) → (combined_wires o k n a b).wire ≡ n + 1
 combined_at combine.Add k n a b = refl
 combined_at combine.Max k n a b = refl
 combined_at combine.Min k n a b = refl
@@ -175,7 +175,7 @@ status_kinded tables frame all n go code c x some z l h =
       );
     }
 
-small : (n : ℕ) → nat_lt n 100 ≡ true → IsInRange kind.Int (pos n)
+pub small : (n : ℕ) → nat_lt n 100 ≡ true → IsInRange kind.Int (pos n)
 small n h = let l : n < 100 = grind (arith, nat_tests) in search (rules, l)
 
 trap_kinded : (tables : Tables) (frame : List Kind) (all : List WireEquation) (n a : ℕ) (c : ℕ → Class) (x : Class) → a < n → HasKind tables frame c (OfTrap a) x → IsKindedFormula frame all n c x (spelled n (OfTrap a))

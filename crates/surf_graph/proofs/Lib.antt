@@ -29,4 +29,8 @@ pub mod SpelledAmong
 pub mod SpelledRows
 pub mod KindedExpressions
 pub mod KindedOperations
+pub mod KindedEquations
+pub mod KindedParts
+pub mod KindedLocals
+pub mod KindedStarts
 pub mod Adding

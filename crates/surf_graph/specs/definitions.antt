@@ -2,6 +2,7 @@ pub mod Copies
 pub mod DomainCopies
 pub mod DomainTells
 pub mod Formulas
+pub mod KindedCopies
 pub mod KindedWires
 pub mod KindedFormulas
 pub mod Operations

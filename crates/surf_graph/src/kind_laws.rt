@@ -5,14 +5,22 @@ ghost use Rattle.java_values.specs.declared.kind.Kind.{Kind};
 ghost use Rattle.java_values.specs.declared.kind.Kind.TheVariants.{Boolean};
 ghost use Rattle.kernel_terms.specs.declared.tables.Tables.{Tables};
 ghost use Rattle.kernel_terms.specs.Expressions.{Expression, Test, kind_of};
-ghost use Rattle.kernel_terms.specs.WellFormed.{Scope, fits_expression, fits_test};
+ghost use Rattle.kernel_terms.specs.Statements.{Stmt};
+ghost use Rattle.kernel_terms.specs.WellFormed.{Scope, fits_expression, fits_statement, fits_test};
+ghost use Rattle.kernel_rules.specs.definitions.Registers.{statement_registers};
 ghost use Rattle.tick_code.specs.WellKinded.{Class, Constant, Fits};
 ghost use Rattle.wire_code.specs.declared.equation.Equation.{Equation};
-ghost use Rattle.surf_graph.specs.definitions.Formulas.{Wires, WiresBelow, Formula, Reads};
-ghost use Rattle.surf_graph.specs.definitions.KindedFormulas.{HasKind, IsKindedFormula};
+ghost use Rattle.surf_graph.specs.definitions.Formulas.{Wires, WiresBelow, Formula, Reads, Within};
+ghost use Rattle.surf_graph.specs.definitions.Formulas.{Equation as CopyEquation};
+ghost use Rattle.surf_graph.specs.definitions.Copies.{Context};
+ghost use Rattle.surf_graph.specs.definitions.KindedCopies.{divides_by_literals, EachCombines, HasRegisters};
+ghost use Rattle.surf_graph.specs.definitions.KindedCopies.{ContextFits, IsKindedCopy};
+ghost use Rattle.surf_graph.specs.definitions.Shows.{Outside};
+ghost use Rattle.surf_graph.specs.definitions.StartingCopies.{start};
+ghost use Rattle.surf_graph.specs.definitions.KindedFormulas.{HasKind, HaveKinds, AreKinded, IsKindedFormula};
 ghost use Rattle.surf_graph.specs.definitions.KindedWires.{OperandsFit, Among, IsKinded, value_class, test_class};
 ghost use Rattle.surf_graph.specs.definitions.KindedWires.{has_literal_divisors};
-ghost use Rattle.surf_graph.specs.definitions.SpelledOut.{value_wires, test_wires, spelled};
+ghost use Rattle.surf_graph.specs.definitions.SpelledOut.{value_wires, test_wires, spelled, spelled_out};
 
 /// The operations of an expression that fits its scope, whose divisors are literals, are well-kinded where the wires
 /// that it reads are of their kinds, and its wire is an operand of its kind. So are those of a test that fits,
@@ -42,4 +50,24 @@ pub fn operations_of_formulas_are_well_kinded()
         (f : Formula) (x : Class) → 0 < n → c 0 ≡ Constant (pos 0) → Reads n f
         → HasKind tables frame c f x → Among (spelled n f).equations all
         → IsKindedFormula frame all n c x (spelled n f) }
+{}
+
+/// Equations that read and give wires below n alone and have their kinds are well-kinded where they are
+/// spelled out with further wires from n on, and wire 0 is the constant 0.
+pub fn spelled_equations_are_well_kinded()
+    ensures { (tables : Tables) (frame : List Kind) (all : List Equation) (n : ℕ) (c : ℕ → Class)
+        (es : List CopyEquation) → 0 < n → c 0 ≡ Constant (pos 0) → Within n es
+        → HaveKinds tables frame c es → Among (spelled_out n es) all
+        → AreKinded frame all n c (spelled_out n es) }
+{}
+
+/// A starting copy has kinds where its statement fits, each divisor in it is a literal other than 0, each
+/// signal's combination fits its kind, the wires that the copy is given are its context's, below its own, and of
+/// their kinds, and the frame has the statement's registers.
+pub fn starting_copies_are_well_kinded()
+    ensures { (tables : Tables) (frame : List Kind) (scope : Scope) (p : Stmt) (c : ℕ → Class)
+        (x : Context) → EachCombines tables → fits_statement tables scope p ≡ true
+        → divides_by_literals p ≡ true → Outside x → ContextFits tables scope c x
+        → HasRegisters frame x.register (statement_registers tables p)
+        → IsKindedCopy tables frame scope.domain p x.register x.next c (start tables p x) }
 {}

@@ -1,12 +1,12 @@
 -- What the wires of a domain tell of its tick.
-use Rattle.std.specs.Prelude.{◌≡◌, ℕ, suc, ℤ, pos, true, cond, List, None, Option, get_or, is_some, unwrap_or}
+use Rattle.std.specs.Prelude.{◌≡◌, ℕ, suc, ℤ, pos, true, cond, List, length, map, None, Option, get_or, is_some, unwrap_or}
 use Rattle.java_values.specs.Arithmetic.{of_bool}
 use Rattle.kernel_terms.specs.declared.tables.Tables.{Tables}
 use Rattle.kernel_terms.specs.Marks.{Going, Ended}
 use Rattle.kernel_terms.specs.Statements.{Stmt}
 use Rattle.kernel_terms.specs.TableEntries.{signal_at}
 use Rattle.kernel_rules.specs.definitions.LegalTick.{DomainState, Inputs, IsLegalTick, shown_statuses}
-use Rattle.kernel_rules.specs.definitions.Registers.{variables_held, values_held, last_held}
+use Rattle.kernel_rules.specs.definitions.Registers.{domain_registers, variables_held, values_held, last_held}
 use Rattle.surf_graph.specs.definitions.Formulas.{is_on, told_env}
 use Rattle.surf_graph.specs.definitions.Tells.{Stands}
 use Rattle.surf_graph.specs.definitions.DomainCopies.{DomainCopy, is_input_of, input_place}
@@ -35,16 +35,17 @@ state_read tables d p t ticks f = record {
 
 -- the values of the wires of a list; past its end there is 0
 abbrev pub registers_told : (ℕ → ℤ) → List ℕ → ℕ → ℤ
-registers_told w wires k = w (get_or wires k 0)
+registers_told w wires k = get_or (map w wires) k (pos 0)
 
--- They tell a legal tick of t. The next registers stand for the state behind it, and, where the domain pauses, for its
--- statement.
+-- They tell a legal tick of t. Each register has a next one. These stand for the state behind the tick, and, where the
+-- domain pauses, for its statement.
 pub record DomainTells (tables : Tables) (inputs : Inputs) (d ticks : ℕ) (p t : Stmt) (f w : ℕ → ℤ)
     (c : DomainCopy) : Type 0 where
   pub after : DomainState
   pub legal : IsLegalTick tables inputs d (state_read tables d p t ticks f)
       (shown_statuses tables d (told_env w c.wires)) after
   pub mark : after.mark ≡ cond (is_on w c.paused) Going Ended
+  pub count : length c.next ≡ length (domain_registers tables d p)
   pub variables : variables_held tables d p (registers_told w c.next) ≡ after.variables
   pub values : values_held tables d p (registers_told w c.next) ≡ after.values
   pub last : last_held tables d p (registers_told w c.next) ≡ after.last

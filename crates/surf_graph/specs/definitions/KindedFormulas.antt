@@ -57,6 +57,13 @@ HaveKinds tables frame c [] = Unit {0}
 HaveKinds tables frame c (e ∷ es) =
     HasKind tables frame c e.formula (c e.wire) × HaveKinds tables frame c es
 
+-- There are classes, which are these below n, by which each of these operations has its class among all.
+pub record AreKinded (frame : List Kind) (all : List WireEquation) (n : ℕ) (c : ℕ → Class)
+    (ops : List WireEquation) : Type 0 where
+  pub classes : ℕ → Class
+  pub same : SameBelow n c classes
+  pub each : HaveClasses frame all classes ops
+
 -- There are classes, which are these below n, by which the operations of a formula have their classes among all, and the
 -- last one has this class.
 pub record IsKindedFormula (frame : List Kind) (all : List WireEquation) (n : ℕ) (c : ℕ → Class)

@@ -33,7 +33,7 @@ pub record OperandsFit (tables : Tables) (scope : Scope) (c : ℕ → Class) (v 
 abbrev pub Among : List Equation → List Equation → Type 0
 Among es all = (w : ℕ) (f : Operation) → Gives es w f → Gives all w f
 
--- each divisor is a literal other than 0
+-- operators that have a divisor
 abbrev pub divides : Op2 → Bool
 divides op.Div = true
 divides op.Rem = true
@@ -43,6 +43,7 @@ abbrev pub is_literal_divisor : Expression → Bool
 is_literal_divisor (Literal k n) = is_nonzero n
 is_literal_divisor _ = false
 
+-- each divisor in the expression is a literal other than 0
 abbrev pub has_literal_divisors : Expression → Bool
 has_literal_divisors (Literal k n) = true
 has_literal_divisors (Variable k x) = true

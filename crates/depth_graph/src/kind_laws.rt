@@ -1,0 +1,27 @@
+//! Kinds of the wires of resuming copies.
+
+ghost use Rattle.std.specs.Prelude.{◌≡◌, ℕ, ◌+◌, ◌<◌, true, List, length};
+ghost use Rattle.java_values.specs.declared.kind.Kind.{Kind};
+ghost use Rattle.kernel_terms.specs.declared.tables.Tables.{Tables};
+ghost use Rattle.kernel_terms.specs.Statements.{Stmt};
+ghost use Rattle.kernel_terms.specs.WellFormed.{Scope, fits_statement, is_receiver_of};
+ghost use Rattle.kernel_rules.specs.definitions.Registers.{registers, statement_registers};
+ghost use Rattle.tick_code.specs.WellKinded.{Class};
+ghost use Rattle.surf_graph.specs.definitions.Copies.{Context};
+ghost use Rattle.surf_graph.specs.definitions.KindedCopies.{divides_by_literals, EachCombines, HasRegisters};
+ghost use Rattle.surf_graph.specs.definitions.KindedCopies.{ContextFits, IsKindedCopy};
+ghost use Rattle.surf_graph.specs.definitions.Shows.{Outside};
+ghost use Rattle.depth_graph.specs.definitions.ResumingCopies.{resume};
+
+/// A resuming copy has kinds where its statement fits, each divisor in it is a literal other than 0, each
+/// signal's combination fits its kind, the wires that the copy is given are its context's, below its own, and of
+/// their kinds, and the frame has the statement's registers and, where the domain receives, one place more.
+pub fn resuming_copies_are_well_kinded()
+    ensures { (tables : Tables) (frame : List Kind) (scope : Scope) (p : Stmt) (c : ℕ → Class)
+        (x : Context) → EachCombines tables → fits_statement tables scope p ≡ true
+        → divides_by_literals p ≡ true → Outside x → ContextFits tables scope c x
+        → HasRegisters frame x.register (statement_registers tables p)
+        → ((ch : ℕ) → is_receiver_of tables scope.domain ch ≡ true
+        → x.register + registers tables p < length frame)
+        → IsKindedCopy tables frame scope.domain p x.register x.next c (resume tables p x) }
+{}
