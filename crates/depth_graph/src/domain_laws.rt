@@ -6,9 +6,11 @@ ghost use Rattle.kernel_terms.specs.MayEnd.{LoopsWait};
 ghost use Rattle.kernel_terms.specs.Statements.{Stmt};
 ghost use Rattle.kernel_terms.specs.WellFormed.{fits_statement};
 ghost use Rattle.kernel_rules.specs.definitions.LegalTick.{Inputs};
+ghost use Rattle.tick_code.specs.Counters.{AreNumbered};
+ghost use Rattle.tick_code.specs.declared.layout.Layout.{Layout};
 ghost use Rattle.kernel_rules.specs.definitions.Registers.{residual, FitRegisters};
 ghost use Rattle.surf_graph.specs.definitions.DomainCopies.{domain_context, domain_of_copy};
-ghost use Rattle.surf_graph.specs.definitions.DomainTells.{DomainTells, HandsIn};
+ghost use Rattle.surf_graph.specs.definitions.DomainTells.{DomainTells, HandsIn, HasLayout, LayoutTells};
 ghost use Rattle.surf_graph.specs.definitions.Formulas.{Satisfies};
 ghost use Rattle.surf_graph.specs.definitions.Sources.{IsSource};
 ghost use Rattle.surf_graph.specs.definitions.Spells.{Spells};
@@ -37,4 +39,19 @@ pub fn resuming_domains_tell_ticks()
         ops
         → DomainTells tables inputs d ticks p (residual tables p 0 f) f w
         (domain_of_copy tables d p (resume tables p (domain_context tables d))) }
+{}
+
+/// The wires that a layout names tell a tick of what a domain's registers stand for, in each solution of a code whose
+/// operations spell the domain's equations.
+pub fn resuming_codes_tell_ticks()
+    ensures { (tables : Tables) (inputs : Inputs) (d ticks : ℕ) (p : Stmt) (f w : ℕ → ℤ) (r : ℕ → ℕ)
+        (ops code : List Operation) (l : Layout) → IsSource tables p → LoopsWait p
+        → fits_statement tables (record { domain = d; traps = 0; locals = [] }) p ≡ true
+        → FitRegisters tables p 0 f → HandsIn tables d p (λ s. inputs s (suc ticks)) f
+        → Spells (domain_of_copy tables d p (resume tables p (domain_context tables d))).equations
+        ops
+        → AreNumbered r ops code
+        → HasLayout tables d r
+        (domain_of_copy tables d p (resume tables p (domain_context tables d))) l
+        → Meets f w code → LayoutTells tables inputs d ticks p (residual tables p 0 f) f w l }
 {}

@@ -199,32 +199,34 @@ domain_tells tables inputs d ticks p t f w a exits own given says regs active =
     let code = tick_code tables last t env x o exits ticks_told in
     let pauses : is_on w a.next ≡ has_paused o.code = says.paused ∙ ap (λ v. to_nat v == status_of paused_code) tells.status ∙ same_test o.code in
     record {
-      after = record {
-        statement = o.rest;
-        variables = o.variables;
-        values = values_after tables d env (values_held tables d p f);
-        last = last;
-        ticks = suc ticks;
-        mark = mark_after o.code;
+      tick = record {
+        after = record {
+          statement = o.rest;
+          variables = o.variables;
+          values = values_after tables d env (values_held tables d p f);
+          last = last;
+          ticks = suc ticks;
+          mark = mark_after o.code;
+        };
+        legal = record {
+          goes_on = refl;
+          env = env;
+          tick = o;
+          ticks = ticks_told;
+          coherent = λ s i. coherent s i ∙ ap (λ l. status_in tables (λ r. inputs r (suc ticks)) (values_held tables d p f) l s) tells.emits;
+          code = code;
+          shows = refl;
+          next = refl;
+        };
+        mark = small_codes o.code code (has_paused o.code) refl ∙ ap (λ b. cond b Going Ended) (sym pauses);
+        variables = fun_ext (λ y. variables_told tables d p w a.sets m a.variables (domain_wires tables d).value (domain_wires tables d).last y ∙ variables_after tables d p t f w last env a.variables o own ticks_told tells.variables y);
+        values = fun_ext (λ s. values_told tables d p w a.sets m a.variables (domain_wires tables d).value (domain_wires tables d).last s ∙ values_are tables d p (λ r. inputs r (suc ticks)) f w (emitted w a.emits) given pure coherent s);
+        last = fun_ext (λ c. last_told tables d p w a.sets m a.variables (domain_wires tables d).value (domain_wires tables d).last c ∙ last_are tables d p f w says.last c);
+        stands = λ on.
+            let r = registers_told w (domain_of_copy tables d p a).next in
+            let agree : Agree 0 (registers tables p) (registers_set w a.sets) r = record { at = λ k ge less. sym (statement_told tables d p w a.sets m a.variables (domain_wires tables d).value (domain_wires tables d).last f k (omega (arith, less)) regs) } in
+            stands_still tables p 0 (registers_set w a.sets) r o.rest (remain tables p 0 (registers_set w a.sets) r agree)
+            (tells.sets (ap₂ (λ b c. b && c) (sym pauses ∙ on) (ap is_true says.one)));
       };
-      legal = record {
-        goes_on = refl;
-        env = env;
-        tick = o;
-        ticks = ticks_told;
-        coherent = λ s i. coherent s i ∙ ap (λ l. status_in tables (λ r. inputs r (suc ticks)) (values_held tables d p f) l s) tells.emits;
-        code = code;
-        shows = refl;
-        next = refl;
-      };
-      mark = small_codes o.code code (has_paused o.code) refl ∙ ap (λ b. cond b Going Ended) (sym pauses);
       count = counted tables d p w a.sets m a.variables (domain_wires tables d).value (domain_wires tables d).last;
-      variables = fun_ext (λ y. variables_told tables d p w a.sets m a.variables (domain_wires tables d).value (domain_wires tables d).last y ∙ variables_after tables d p t f w last env a.variables o own ticks_told tells.variables y);
-      values = fun_ext (λ s. values_told tables d p w a.sets m a.variables (domain_wires tables d).value (domain_wires tables d).last s ∙ values_are tables d p (λ r. inputs r (suc ticks)) f w (emitted w a.emits) given pure coherent s);
-      last = fun_ext (λ c. last_told tables d p w a.sets m a.variables (domain_wires tables d).value (domain_wires tables d).last c ∙ last_are tables d p f w says.last c);
-      stands = λ on.
-          let r = registers_told w (domain_of_copy tables d p a).next in
-          let agree : Agree 0 (registers tables p) (registers_set w a.sets) r = record { at = λ k ge less. sym (statement_told tables d p w a.sets m a.variables (domain_wires tables d).value (domain_wires tables d).last f k (omega (arith, less)) regs) } in
-          stands_still tables p 0 (registers_set w a.sets) r o.rest (remain tables p 0 (registers_set w a.sets) r agree)
-          (tells.sets (ap₂ (λ b c. b && c) (sym pauses ∙ on) (ap is_true says.one)));
     }

@@ -25,6 +25,8 @@ pub mod DomainLists
 pub mod DomainStatuses
 pub mod DomainRegisters
 pub mod DomainTicks
+pub mod Layouts
+pub mod DomainStarts
 pub mod SpelledAmong
 pub mod SpelledRows
 pub mod KindedExpressions
