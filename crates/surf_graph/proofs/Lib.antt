@@ -26,6 +26,7 @@ pub mod DomainStatuses
 pub mod DomainRegisters
 pub mod DomainTicks
 pub mod Layouts
+pub mod EndWires
 pub mod DomainStarts
 pub mod SpelledAmong
 pub mod SpelledRows

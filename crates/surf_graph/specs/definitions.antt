@@ -1,6 +1,7 @@
 pub mod Copies
 pub mod DomainCopies
 pub mod DomainTells
+pub mod EndWires
 pub mod Formulas
 pub mod KindedCopies
 pub mod KindedWires

@@ -9,6 +9,9 @@ ghost use Rattle.kernel_rules.specs.definitions.LegalTick.{Inputs};
 ghost use Rattle.tick_code.specs.Counters.{AreNumbered};
 ghost use Rattle.tick_code.specs.declared.layout.Layout.{Layout};
 ghost use Rattle.surf_graph.specs.definitions.DomainCopies.{domain_context, domain_of_copy};
+ghost use Rattle.surf_graph.specs.definitions.EndWires.{TellWaits, TellSends, channels_of, sending_ends};
+ghost use Rattle.surf_graph.specs.definitions.EndWires.{ends_of_copy};
+ghost use Rattle.tick_code.specs.declared.end_place.EndPlace.{EndPlace};
 ghost use Rattle.surf_graph.specs.definitions.DomainTells.{DomainTells, HandsIn, HasLayout, LayoutTells};
 ghost use Rattle.surf_graph.specs.definitions.Formulas.{Satisfies};
 ghost use Rattle.surf_graph.specs.definitions.Sources.{IsSource};
@@ -51,4 +54,17 @@ pub fn starting_codes_tell_ticks()
         → HasLayout tables d r
         (domain_of_copy tables d p (start tables p (domain_context tables d))) l
         → Meets f w code → LayoutTells tables inputs d ticks p p f w l }
+{}
+
+/// In each solution of the equations of a domain's ends their wires tell which ends wait, by the values of the next
+/// registers, and what each sending end that waits sends.
+pub fn end_wires_tell_offers()
+    ensures waits { (tables : Tables) (d : ℕ) (places : List EndPlace) (next : ℕ → ℕ) (n : ℕ)
+        (f w : ℕ → ℤ) → Satisfies f w (ends_of_copy tables d places next n).equations
+        → TellWaits w (λ j. w (next j)) places (channels_of tables d) 0
+        (ends_of_copy tables d places next n).waits }
+    ensures sends { (tables : Tables) (d : ℕ) (places : List EndPlace) (next : ℕ → ℕ) (n : ℕ)
+        (f w : ℕ → ℤ) → Satisfies f w (ends_of_copy tables d places next n).equations
+        → TellSends w (λ j. w (next j)) places (sending_ends tables d (channels_of tables d) 0)
+        (ends_of_copy tables d places next n).sends }
 {}

@@ -13,7 +13,9 @@ mod statuses;
 mod wire_tables;
 
 pub use builder::{Builder, FIRST_FURTHER};
-pub use domain_laws::{starting_codes_tell_ticks, starting_domains_tell_ticks};
+pub use domain_laws::{
+    end_wires_tell_offers, starting_codes_tell_ticks, starting_domains_tell_ticks,
+};
 pub use expression::{test, value};
 pub use kind_laws::{
     operations_are_well_kinded, operations_of_formulas_are_well_kinded,
