@@ -11,7 +11,7 @@ use Rattle.wire_code.specs.Formulas.{EachRead}
 use Rattle.wire_code.specs.Numbering.{renamed, renamed_equations, IsNumbering, IsGiven, ReadsGiven}
 use Rattle.wire_code.proofs.EquationLemmas.{each_read}
 use Rattle.wire_code.proofs.NumberingLemmas.{place_of, given_by_later}
-use Rattle.tick_code.specs.WellKinded.{Class, Fits, Gives, IsSafeDivisor, DividesSafely, IsEither, HasClass, HaveClasses, WellKinded}
+use Rattle.tick_code.specs.WellKinded.{Class, Fits, Gives, IsSafeDivisor, DividesSafely, IsEither, HasClass, HaveClasses, WellKinded, KeepsClasses}
 
 no_equation : Equation
 no_equation = record { wire = 0; formula = Const (pos 0) }
@@ -87,9 +87,13 @@ classes_renamed frame r all c b before (e ∷ es) kept reads front back h =
       classes_renamed frame r all c b (e ∷ before) es kept reads.1 (given_by_later (IsGiven all) before es e front back) (λ k given. back k (inr given)) h.1,
     )
 
-pub numbered_well_kinded : (frame : List Kind) (r : ℕ → ℕ) (es : List Equation) → IsNumbering r 0 es → ReadsGiven [] es → WellKinded frame es → WellKinded frame (renamed_equations r es)
-numbered_well_kinded frame r es h g well = record {
-  classes = class_at well.classes es;
-  each =
-      classes_renamed frame r es well.classes (class_at well.classes es) [] es (class_kept well.classes r es h) g (λ k none. absurd none) (λ k given. given) well.each;
-}
+pub numbered_well_kinded : (frame : List Kind) (r : ℕ → ℕ) (es : List Equation) → IsNumbering r 0 es → ReadsGiven [] es → (well : WellKinded frame es) → KeepsClasses frame r es well.classes
+numbered_well_kinded frame r es h g well =
+    let kept = class_kept well.classes r es h in
+    record {
+      well = record {
+        classes = class_at well.classes es;
+        each = classes_renamed frame r es well.classes (class_at well.classes es) [] es kept g (λ k none. absurd none) (λ k given. given) well.each;
+      };
+      kept = kept;
+    }

@@ -8,6 +8,7 @@ use Rattle.java_values.specs.Kinds.{IsInRange, result_kind1, result_kind2, is_ca
 use Rattle.wire_code.specs.declared.formula.Formula.{Formula}
 use Rattle.wire_code.specs.declared.formula.Formula.TheVariants.{Const, Get, And, Or, Not, Apply1, Apply2, Cast, Choose}
 use Rattle.wire_code.specs.declared.equation.Equation.{Equation}
+use Rattle.wire_code.specs.Numbering.{renamed_equations, IsGiven}
 
 -- what is known of a wire's number: its kind, or the number itself
 pub data Class : Type 0 where
@@ -74,6 +75,12 @@ HaveClasses frame es c (e ∷ rest) =
 pub record WellKinded (frame : List Kind) (es : List Equation) : Type 0 where
   pub classes : ℕ → Class
   pub each : HaveClasses frame es classes es
+
+-- the renamed equations are well-kinded, and each wire has the class that it had under its old number
+pub record KeepsClasses (frame : List Kind) (r : ℕ → ℕ) (es : List Equation) (c : ℕ → Class) : Type 0
+  where
+    pub well : WellKinded frame (renamed_equations r es)
+    pub kept : (k : ℕ) → IsGiven es k → well.classes (r k) ≡ c k
 
 -- one number of each kind
 abbrev pub LieIn : List Kind → List ℤ → Type 0
