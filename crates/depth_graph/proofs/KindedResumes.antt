@@ -202,7 +202,7 @@ waiting_kinded tables frame scope m c x o g one two room le =
                     (
                       (waits, small 2 refl, at6),
                       (
-                        (five, six, greater five six at5 at7),
+                        (five, six, greater (d (n + 5)) (d (n + 6)) (d (n + 7)) six at5 at7),
                         ((fits_still kind.Boolean n c d x.hold s o.hold g.hold, keep, at8), ((waits, keep, at9), tt)),
                       ),
                     ),
@@ -233,8 +233,8 @@ waiting_kinded tables frame scope m c x o g one two room le =
             (record { condition = held; value = value }, (record { condition = kept; value = value }, tt))));
       };
     } where
-      greater : {a b e : Class} → Fits kind.Int a → Fits kind.Int b → a ≡ Of kind.Int → e ≡ Of kind.Int → IsEither a b e
-      greater {a} {b} {e} fa fb ea ee = subst (λ z. IsEither z b e) (sym ea) (fb, ee)
+      greater : (a b e : Class) → Fits kind.Int b → a ≡ Of kind.Int → e ≡ Of kind.Int → IsEither a b e
+      greater a b e fb ea ee = subst (λ z. IsEither z b e) (sym ea) (fb, ee)
 
 -- the induction hypothesis on a part
 abbrev Part : Tables → List Kind → Scope → Stmt → Type 0
