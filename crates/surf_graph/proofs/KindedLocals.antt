@@ -36,7 +36,7 @@ pub record FoldKinded (tables : Tables) (frame : List Kind) (k : Kind) (b : Bool
   pub some_is : classes r.some ≡ cond b (Of kind.Boolean) (c some)
   pub value_is : classes r.value ≡ cond b (Of k) (c value)
 
-one_class : (b : Bool) (x : Class) → cond b x x ≡ x
+pub one_class : (b : Bool) (x : Class) → cond b x x ≡ x
 one_class true x = refl
 one_class false x = refl
 

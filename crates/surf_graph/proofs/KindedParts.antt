@@ -57,6 +57,7 @@ emissions_still tables n c d [] s b h = tt
 emissions_still tables n c d (e ∷ es) s b h =
     let one = h.0 in (
       record {
+        emitted = one.emitted;
         condition = fits_still kind.Boolean n c d e.condition s b.0 one.condition;
         value = fits_still (value_kind (signal_at tables e.signal)) n c d e.value s b.1.0 one.value;
         pure = λ k. s.at e.value b.1.0 ∙ one.pure k;

@@ -33,4 +33,6 @@ pub mod KindedEquations
 pub mod KindedParts
 pub mod KindedLocals
 pub mod KindedStarts
+pub mod KindedPlaces
+pub mod KindedStatuses
 pub mod Adding

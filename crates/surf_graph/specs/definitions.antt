@@ -3,6 +3,7 @@ pub mod DomainCopies
 pub mod DomainTells
 pub mod Formulas
 pub mod KindedCopies
+pub mod KindedDomains
 pub mod KindedWires
 pub mod KindedFormulas
 pub mod Operations
