@@ -107,7 +107,7 @@ abbrev pub local_classes : Option Kind → Bool → List Class
 local_classes o b =
     cond b (Of kind.Boolean) (Constant (pos 0)) ∷ cond b (Of (unwrap_or o kind.Boolean)) (last_class o) ∷ last_class o ∷ Of kind.Boolean ∷ Of kind.Boolean ∷ Of kind.Boolean ∷ []
 
-last_fits : (o : Option Kind) → Fits (unwrap_or o kind.Boolean) (last_class o)
+pub last_fits : (o : Option Kind) → Fits (unwrap_or o kind.Boolean) (last_class o)
 last_fits None = none_fits kind.Boolean
 last_fits (Some k) = refl
 

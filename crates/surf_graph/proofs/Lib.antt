@@ -35,4 +35,5 @@ pub mod KindedLocals
 pub mod KindedStarts
 pub mod KindedPlaces
 pub mod KindedStatuses
+pub mod KindedDomains
 pub mod Adding
