@@ -7,3 +7,4 @@ pub mod ResumeInside
 pub mod ResumeRests
 pub mod ResumeShows
 pub mod KindedResumes
+pub mod KindedResumingDomains

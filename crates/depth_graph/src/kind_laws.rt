@@ -1,6 +1,6 @@
 //! Kinds of the wires of resuming copies.
 
-ghost use Rattle.std.specs.Prelude.{◌≡◌, ℕ, ◌+◌, ◌<◌, true, List, length};
+ghost use Rattle.std.specs.Prelude.{◌≡◌, ℕ, ◌+◌, ◌<◌, true, List, [], length};
 ghost use Rattle.java_values.specs.declared.kind.Kind.{Kind};
 ghost use Rattle.kernel_terms.specs.declared.tables.Tables.{Tables};
 ghost use Rattle.kernel_terms.specs.Statements.{Stmt};
@@ -10,6 +10,8 @@ ghost use Rattle.tick_code.specs.WellKinded.{Class};
 ghost use Rattle.surf_graph.specs.definitions.Copies.{Context};
 ghost use Rattle.surf_graph.specs.definitions.KindedCopies.{divides_by_literals, EachCombines, HasRegisters};
 ghost use Rattle.surf_graph.specs.definitions.KindedCopies.{ContextFits, IsKindedCopy};
+ghost use Rattle.surf_graph.specs.definitions.DomainCopies.{domain_context, domain_of_copy};
+ghost use Rattle.surf_graph.specs.definitions.KindedDomains.{IsKindedDomain};
 ghost use Rattle.surf_graph.specs.definitions.Shows.{Outside};
 ghost use Rattle.depth_graph.specs.definitions.ResumingCopies.{resume};
 
@@ -24,4 +26,15 @@ pub fn resuming_copies_are_well_kinded()
         → ((ch : ℕ) → is_receiver_of tables scope.domain ch ≡ true
         → x.register + registers tables p < length frame)
         → IsKindedCopy tables frame scope.domain p x.register x.next c (resume tables p x) }
+{}
+
+/// A domain's equations by the resuming copy of its statement have kinds, over a frame of its registers and
+/// inputs, where the statement fits, each divisor in it is a literal other than 0, and each signal's combination
+/// fits its kind.
+pub fn resuming_domains_are_well_kinded()
+    ensures { (tables : Tables) (d : ℕ) (p : Stmt) → EachCombines tables
+        → fits_statement tables (record { domain = d; traps = 0; locals = [] }) p ≡ true
+        → divides_by_literals p ≡ true
+        → IsKindedDomain tables d p
+        (domain_of_copy tables d p (resume tables p (domain_context tables d))) }
 {}

@@ -228,7 +228,7 @@ set_inside k n limit (s ∷ ss) b le =
     let y = b.1.0 in
     (omega (arith, le), ((omega (arith, x, le), omega (arith, y, le), omega (arith, le)), set_inside k (suc n) limit ss (sets_more n (suc n) ss (omega arith) b.1.1) (omega (arith, le))))
 
-set_length : (k : Kind) (n : ℕ) (ss : List Sets) → length (set_equations k n ss) ≡ suc (length ss)
+pub set_length : (k : Kind) (n : ℕ) (ss : List Sets) → length (set_equations k n ss) ≡ suc (length ss)
 set_length k n [] = refl
 set_length k n (s ∷ ss) = ap suc (set_length k (suc n) ss)
 

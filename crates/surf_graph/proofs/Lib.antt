@@ -36,4 +36,5 @@ pub mod KindedStarts
 pub mod KindedPlaces
 pub mod KindedStatuses
 pub mod KindedDomains
+pub mod KindedDomainOperations
 pub mod Adding

@@ -1,14 +1,16 @@
 -- Kinds of the wires of a domain's equations.
-use Rattle.std.specs.Prelude.{◌≡◌, ℕ, pos, true, List, map}
+use Rattle.std.specs.Prelude.{◌≡◌, ℕ, suc, ◌+◌, pos, true, List, length, map}
 use Rattle.java_values.specs.declared.kind.Kind.{Kind}
 use Rattle.java_values.specs.declared.kind.Kind.TheVariants.{Boolean}
 use Rattle.kernel_terms.specs.declared.tables.Tables.{Tables}
 use Rattle.kernel_terms.specs.Statements.{Stmt}
-use Rattle.kernel_terms.specs.TableEntries.{signal_at, is_interface_of, value_kind}
-use Rattle.kernel_rules.specs.definitions.Registers.{domain_registers}
+use Rattle.kernel_terms.specs.TableEntries.{signal_at, is_interface_of, interface_of, value_kind}
+use Rattle.kernel_rules.specs.definitions.Registers.{statement_registers, domain_registers}
 use Rattle.tick_code.specs.BuiltKinds.{WiresFit, frame_kinds}
-use Rattle.tick_code.specs.WellKinded.{Class, Constant, Fits}
-use Rattle.surf_graph.specs.definitions.DomainCopies.{DomainCopy, inputs_of}
+use Rattle.tick_code.specs.WellKinded.{Class, Constant, Fits, WellKinded}
+use Rattle.wire_code.specs.declared.equation.Equation.{Equation as WireEquation}
+use Rattle.surf_graph.specs.definitions.Copies.{Copy}
+use Rattle.surf_graph.specs.definitions.DomainCopies.{DomainCopy, inputs_of, all_statuses, register_equations, first_presence_wire, first_value_wire, first_wire_before}
 use Rattle.surf_graph.specs.definitions.KindedFormulas.{HaveKinds}
 
 -- the kinds of a domain's frame: those of its registers, and then presence and value of each input
@@ -33,3 +35,17 @@ pub record DomainFits (tables : Tables) (d : ℕ) (p : Stmt) (classes : ℕ → 
 pub record IsKindedDomain (tables : Tables) (d : ℕ) (p : Stmt) (c : DomainCopy) : Type 0 where
   pub classes : ℕ → Class
   pub fits : DomainFits tables d p classes c
+
+-- the first wire behind all of a domain's own, by a copy of its statement
+abbrev pub wires_end : Tables → ℕ → Stmt → Copy → ℕ
+wires_end tables d p a =
+    let m = suc a.next + length (all_statuses tables d p (interface_of tables d)
+    (first_presence_wire tables d) (first_value_wire tables d) (first_wire_before tables d)
+    (suc a.next) a.emits) in
+    m + length (register_equations (statement_registers tables p) 0 m a.sets)
+
+-- operations that are well-kinded over the domain's frame, by classes that fit the domain
+pub record IsWellKindedDomain (tables : Tables) (d : ℕ) (p : Stmt) (ops : List WireEquation)
+    (c : DomainCopy) : Type 0 where
+  pub well : WellKinded (domain_frame tables d p) ops
+  pub fits : DomainFits tables d p well.classes c
