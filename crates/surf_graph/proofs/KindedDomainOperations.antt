@@ -16,10 +16,11 @@ use Rattle.tick_code.specs.BuiltKinds.{WiresFit}
 use Rattle.tick_code.specs.WellKinded.{Class, Fits}
 use Rattle.surf_graph.specs.definitions.Formulas.{Equation, Reads, Within}
 use Rattle.surf_graph.specs.definitions.Copies.{Copy, Sets, has}
-use Rattle.surf_graph.specs.definitions.DomainCopies.{places_read, all_statuses, set_equations, register_equations, register_wires, first_channel_wire, first_presence_wire, first_value_wire, first_wire_before, first_copy_wire, domain_wires, domain_of_copy}
+use Rattle.surf_graph.specs.definitions.DomainCopies.{places_read, all_statuses, set_equations, register_equations, register_wires, first_channel_wire, first_presence_wire, first_value_wire, first_wire_before, first_copy_wire, domain_wires, domain_context, domain_of_copy}
 use Rattle.surf_graph.specs.definitions.KindedWires.{SameBelow}
 use Rattle.surf_graph.specs.definitions.KindedFormulas.{HasKind, HaveKinds}
-use Rattle.surf_graph.specs.definitions.KindedCopies.{EmissionsFit}
+use Rattle.surf_graph.specs.definitions.KindedCopies.{EachCombines, EmissionsFit, divides_by_literals}
+use Rattle.surf_graph.specs.definitions.StartingCopies.{start}
 use Rattle.surf_graph.specs.definitions.KindedDomains.{domain_frame, DomainFits, IsKindedDomain, IsWellKindedDomain, wires_end}
 use Rattle.surf_graph.specs.definitions.SpelledOut.{spelled_out}
 use Rattle.surf_graph.proofs.Alternatives.{has_append}
@@ -28,6 +29,9 @@ use Rattle.surf_graph.proofs.Frames.{Inside, emits_more, sets_more, within_more,
 use Rattle.surf_graph.proofs.KindedEquations.{same_less, fits_still, kinds_still, spelled_kinded}
 use Rattle.surf_graph.proofs.KindedPlaces.{for_below, places_inside, registers_inside, set_length}
 use Rattle.surf_graph.proofs.KindedStatuses.{statuses_inside}
+use Rattle.surf_graph.proofs.KindedDomains.{domain_outside, own_scope, starting_copy, starting_domain_kinded}
+use Rattle.surf_graph.proofs.StartInside.{start_inside}
+use Rattle.kernel_terms.specs.WellFormed.{fits_statement}
 
 -- in any order
 
@@ -166,3 +170,11 @@ domain_operations tables d p a c n es u fe h le order =
     let inside = within_any_order n all es order (within_more (wires_end tables d p a) n all le within) in
     let k = spelled_kinded tables frame (spelled_out n es) n h.classes es (omega (arith, le)) f.zero inside (kinds_any_order tables frame h.classes all es order f.each) (λ w g x. x) in
     record { well = record { classes = k.classes; each = k.each }; fits = fits_too tables d p a n h.classes k.classes u le within k.same f }
+
+pub starting_domain_operations : (tables : Tables) (d : ℕ) (p : Stmt) (n : ℕ) (es : List Equation) → EachCombines tables → fits_statement tables (own_scope d) p ≡ true → divides_by_literals p ≡ true → wires_end tables d p (start tables p (domain_context tables d)) ≤ n
+    → IsPermutation (domain_of_copy tables d p (start tables p (domain_context tables d))).equations es → IsWellKindedDomain tables d p (spelled_out n es) (domain_of_copy tables d p (start tables p (domain_context tables d)))
+starting_domain_operations tables d p n es each h l le order =
+    let a = start tables p (domain_context tables d) in
+    let o = domain_outside tables d in
+    let k = starting_copy tables d p each h l in
+    domain_operations tables d p a k.classes n es (start_inside tables p (domain_context tables d) o) k.emits (starting_domain_kinded tables d p each h l) le order

@@ -281,10 +281,16 @@ domain_kinded tables d p a each u h =
       };
     }
 
+-- by the starting copy of its statement
+pub starting_copy : (tables : Tables) (d : ℕ) (p : Stmt) → EachCombines tables → fits_statement tables (own_scope d) p ≡ true → divides_by_literals p ≡ true
+    → IsKindedCopy tables (domain_frame tables d p) d p 0 (first_copy_wire tables d) (base_class tables d (start tables p (domain_context tables d)).emits) (start tables p (domain_context tables d))
+starting_copy tables d p each h l =
+    let es = (start tables p (domain_context tables d)).emits in
+    let c = base_class tables d es in
+    let parts = frame_parts tables d p in
+    starting_kinded tables (domain_frame tables d p) (own_scope d) p c (domain_context tables d) each h l (domain_outside tables d) (domain_context_fits tables d es c (base_here tables d es)) parts.statement
+
 pub starting_domain_kinded : (tables : Tables) (d : ℕ) (p : Stmt) → EachCombines tables → fits_statement tables (own_scope d) p ≡ true → divides_by_literals p ≡ true → IsKindedDomain tables d p (domain_of_copy tables d p (start tables p (domain_context tables d)))
 starting_domain_kinded tables d p each h l =
     let a = start tables p (domain_context tables d) in
-    let c = base_class tables d a.emits in
-    let o = domain_outside tables d in
-    let parts = frame_parts tables d p in
-    domain_kinded tables d p a each (start_inside tables p (domain_context tables d) o) (starting_kinded tables (domain_frame tables d p) (own_scope d) p c (domain_context tables d) each h l o (domain_context_fits tables d a.emits c (base_here tables d a.emits)) parts.statement)
+    domain_kinded tables d p a each (start_inside tables p (domain_context tables d) (domain_outside tables d)) (starting_copy tables d p each h l)
