@@ -77,8 +77,7 @@ domain_inside tables d p a c u fe =
     let limit = wires_end tables d p a in
     let V = places_read (variables_of tables d) 2 (first_variable tables p) in
     let C = places_read (received_by tables d) (first_channel_wire tables d) (first_last tables d p) in
-    let wide : n ≤ limit = omega arith in
-    (
+    let wide : n ≤ limit = omega arith in (
       omega (arith, grows),
       (
         tt,
@@ -147,10 +146,10 @@ fits_too tables d p a n c e u le within s h =
     let us = map v.value (valued_of tables d) in
     let cs = map v.last (received_by tables d) in
     let below : (w : ℕ) → has (own ++ (vs ++ (us ++ cs))) w ≡ true → w < limit = λ w x.
-        in_two limit own (vs ++ (us ++ cs)) w (λ y. registers_below (statement_registers tables p) 0 m limit a.sets w (omega arith) y)
-        (λ y. in_two limit vs (us ++ cs) w (λ z. mapped_below limit a.variables (variables_of tables d) w (λ i. let l = u.variables i in omega (arith, l)) z)
-        (λ z. in_two limit us cs w (λ t. mapped_below limit v.value (valued_of tables d) w (λ i. for_below (interface_of tables d) (first_value_wire tables d) i limit (omega arith) (omega (arith, grows))) t)
-        (λ t. mapped_below limit v.last (received_by tables d) w (λ i. for_below (received_by tables d) (first_channel_wire tables d) i limit (omega arith) (omega (arith, grows))) t) z) y) x in
+    in_two limit own (vs ++ (us ++ cs)) w (λ y. registers_below (statement_registers tables p) 0 m limit a.sets w (omega arith) y)
+    (λ y. in_two limit vs (us ++ cs) w (λ z. mapped_below limit a.variables (variables_of tables d) w (λ i. let l = u.variables i in omega (arith, l)) z)
+    (λ z. in_two limit us cs w (λ t. mapped_below limit v.value (valued_of tables d) w (λ i. for_below (interface_of tables d) (first_value_wire tables d) i limit (omega arith) (omega (arith, grows))) t)
+    (λ t. mapped_below limit v.last (received_by tables d) w (λ i. for_below (received_by tables d) (first_channel_wire tables d) i limit (omega arith) (omega (arith, grows))) t) z) y) x in
     record {
       zero = g.at 0 (omega arith) ∙ h.zero;
       each = kinds_still tables (domain_frame tables d p) limit c e (domain_of_copy tables d p a).equations g within h.each;

@@ -233,8 +233,8 @@ domain_kinded tables d p a each u h =
     let eb = emits_more n (suc n) a.emits (omega arith) u.emits in
     let ef = emissions_still tables n c1 c2 a.emits s12 u.emits h.emits in
     let st =
-        statuses_kinded tables d p frame (interface_of tables d) (first_presence_wire tables d) (first_value_wire tables d) (first_wire_before tables d) (suc n) a.emits c2 each parts (λ s e. has_interface tables d s e) base2.zero (omega arith) eb ef (omega (arith, grows)) (omega (arith, grows))
-        (omega (arith, grows)) base2.presence base2.value base2.before in
+    statuses_kinded tables d p frame (interface_of tables d) (first_presence_wire tables d) (first_value_wire tables d) (first_wire_before tables d) (suc n) a.emits c2 each parts (λ s e. has_interface tables d s e) base2.zero (omega arith) eb ef (omega (arith, grows)) (omega (arith, grows))
+    (omega (arith, grows)) base2.presence base2.value base2.before in
     let c3 = st.classes in
     let s23 = st.same in
     let inside = statuses_inside tables d p c2 (interface_of tables d) (first_presence_wire tables d) (first_value_wire tables d) (first_wire_before tables d) (suc n) m a.emits ef (omega arith) eb (omega (arith, grows)) (omega (arith, grows)) (omega (arith, grows)) (omega arith) in

@@ -259,8 +259,8 @@ registers_kinded tables frame (k ∷ ks) r n sets c b h fit =
     let x = set_kinded tables frame k n (sets r) c (b r) (subst (λ z. SetsFit z c (sets r)) own (fit r (omega arith) (omega arith))) in
     let d = x.classes in
     let rest =
-        registers_kinded tables frame ks (suc r) m sets d (λ i. sets_more n m (sets i) (omega arith) (b i)) (moved frame (r + 1) (suc r) ks (omega arith) (further_registers frame r (k ∷ []) ks h))
-        (λ i low high. sets_still (register_kind frame i) n c d (sets i) x.same (b i) (fit i (omega (arith, low)) (omega (arith, high)))) in
+    registers_kinded tables frame ks (suc r) m sets d (λ i. sets_more n m (sets i) (omega arith) (b i)) (moved frame (r + 1) (suc r) ks (omega arith) (further_registers frame r (k ∷ []) ks h))
+    (λ i low high. sets_still (register_kind frame i) n c d (sets i) x.same (b i) (fit i (omega (arith, low)) (omega (arith, high)))) in
     let e = rest.classes in
     record {
       classes = e;

@@ -516,12 +516,12 @@ weakly_kinded tables frame scope t p c x ft ip given =
     let w1 = own_listed c n 5 weak_classes in
     let s1 = w1.below in
     let A =
-        ip c1 (weak_context x)
-        (record {
-          outside = outside_with x.go x.hold n 5 r x o (omega (arith, i)) (omega (arith, j)) (omega arith);
-          fits = context_still tables scope c c1 x x.go x.hold n r (n + 5) o s1 (fits_still kind.Boolean n c c1 x.go s1 o.go g.go) (fits_still kind.Boolean n c c1 x.hold s1 o.hold g.hold) (truth c1 n w1.first) g;
-          registers = given.registers;
-        }) in
+    ip c1 (weak_context x)
+    (record {
+      outside = outside_with x.go x.hold n 5 r x o (omega (arith, i)) (omega (arith, j)) (omega arith);
+      fits = context_still tables scope c c1 x x.go x.hold n r (n + 5) o s1 (fits_still kind.Boolean n c c1 x.go s1 o.go g.go) (fits_still kind.Boolean n c c1 x.hold s1 o.hold g.hold) (truth c1 n w1.first) g;
+      registers = given.registers;
+    }) in
     weak_kinded tables frame scope r (r + registers tables p) (Of kind.Int) t c x (start tables p (weak_context x)) o g ft refl A
 
 strongly_kinded : (tables : Tables) (frame : List Kind) (scope : Scope) (t : Test) (p : Stmt) (c : ℕ → Class) (x : Context) → fits_test tables scope t ≡ true → Part tables frame scope p → Given tables frame scope c p x
@@ -537,12 +537,12 @@ strongly_kinded tables frame scope t p c x ft ip given =
     let w1 = own_listed c n 7 tested_classes in
     let s1 = w1.below in
     let A =
-        ip c1 (tested_context x)
-        (record {
-          outside = outside_with (n + 1) x.hold x.keep 7 r x o (omega arith) (omega (arith, j)) (omega (arith, k));
-          fits = context_still tables scope c c1 x (n + 1) x.hold x.keep r (n + 7) o s1 (truth c1 (n + 1) (w1.at 1 (omega arith))) (fits_still kind.Boolean n c c1 x.hold s1 o.hold g.hold) (fits_still kind.Boolean n c c1 x.keep s1 o.keep g.keep) g;
-          registers = given.registers;
-        }) in
+    ip c1 (tested_context x)
+    (record {
+      outside = outside_with (n + 1) x.hold x.keep 7 r x o (omega arith) (omega (arith, j)) (omega (arith, k));
+      fits = context_still tables scope c c1 x (n + 1) x.hold x.keep r (n + 7) o s1 (truth c1 (n + 1) (w1.at 1 (omega arith))) (fits_still kind.Boolean n c c1 x.hold s1 o.hold g.hold) (fits_still kind.Boolean n c c1 x.keep s1 o.keep g.keep) g;
+      registers = given.registers;
+    }) in
     tested_kinded tables frame scope r (r + registers tables p) x.go 0 (Of kind.Int) t c x (start tables p (tested_context x)) o g ft refl (small 1 refl) A
     (fits_still kind.Boolean n c A.classes x.go (same_twice n (n + 7) c c1 A.classes (omega arith) s1 A.same) o.go g.go)
 

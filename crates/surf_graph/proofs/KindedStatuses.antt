@@ -95,8 +95,8 @@ folded_kinded tables frame s n before es c (Some k) each e z some b lb at h =
     let is : value_kind info ≡ k = ap (λ t. unwrap_or t kind.Boolean) e in
     let fits : Fits (value_kind info) (c before) = fits_as (value_kind info) c before (Of k) at (sym is) in
     let q =
-        fold_kinded tables frame info s n 0 before es c refl b some lb (off_fits kind.Boolean c z) fits
-        (ap (λ t. combines (Some t) info.combine) is ∙ ap (λ t. combines t info.combine) (sym e) ∙ each.at s) (λ t. at ∙ ap Of (sym is)) h in
+    fold_kinded tables frame info s n 0 before es c refl b some lb (off_fits kind.Boolean c z) fits
+    (ap (λ t. combines (Some t) info.combine) is ∙ ap (λ t. combines t info.combine) (sym e) ∙ each.at s) (λ t. at ∙ ap Of (sym is)) h in
     record {
       classes = q.classes;
       same = q.same;
@@ -250,15 +250,15 @@ statuses_kinded tables d p frame (s ∷ is) b v k n es c each parts own z some b
     let ll = length-map is (before_class tables) in
     let i : is_interface_of d (signal_at tables s) ≡ true = own s (or_left (s == s) (has is s) (eq-eqb s s refl)) in
     let x =
-        one_kinded tables d p frame s b v k n es c t refl each parts i z some be fe (omega (arith, lb)) (omega (arith, lv)) (omega (arith, lk)) (places_head c b (presence_class tables es s) ps pb) (places_head c v (signal_class tables s) vs pv)
-        (places_head c k (before_class tables s) ks pk) in
+    one_kinded tables d p frame s b v k n es c t refl each parts i z some be fe (omega (arith, lb)) (omega (arith, lv)) (omega (arith, lk)) (places_head c b (presence_class tables es s) ps pb) (places_head c v (signal_class tables s) vs pv)
+    (places_head c k (before_class tables s) ks pk) in
     let e = x.classes in
     let g = x.same in
     let more = emits_more n m es (omega arith) be in
     let q =
-        statuses_kinded tables d p frame is (suc b) (suc v) (suc k) m es e each parts (λ j h. own j (or_right (s == j) (has is j) h)) (g.at 0 some ∙ z) (omega (arith, some)) more (emissions_still tables n c e es g be fe) (omega (arith, lb)) (omega (arith, lv)) (omega (arith, lk))
-        (places_still c e (suc b) n ps g (omega (arith, lb, lp)) (places_tail c b (presence_class tables es s) ps pb)) (places_still c e (suc v) n vs g (omega (arith, lv, lw)) (places_tail c v (signal_class tables s) vs pv))
-        (places_still c e (suc k) n ks g (omega (arith, lk, ll)) (places_tail c k (before_class tables s) ks pk)) in
+    statuses_kinded tables d p frame is (suc b) (suc v) (suc k) m es e each parts (λ j h. own j (or_right (s == j) (has is j) h)) (g.at 0 some ∙ z) (omega (arith, some)) more (emissions_still tables n c e es g be fe) (omega (arith, lb)) (omega (arith, lv)) (omega (arith, lk))
+    (places_still c e (suc b) n ps g (omega (arith, lb, lp)) (places_tail c b (presence_class tables es s) ps pb)) (places_still c e (suc v) n vs g (omega (arith, lv, lw)) (places_tail c v (signal_class tables s) vs pv))
+    (places_still c e (suc k) n ks g (omega (arith, lk, ll)) (places_tail c k (before_class tables s) ks pk)) in
     let f = q.classes in
     record {
       classes = f;

@@ -16,7 +16,7 @@ pub use builder::{Builder, FIRST_FURTHER};
 pub use domain_laws::starting_domains_tell_ticks;
 pub use expression::{test, value};
 pub use kind_laws::{
-    operations_are_well_kinded, operations_of_formulas_are_well_kinded,
+    fitting_entries_combine, operations_are_well_kinded, operations_of_formulas_are_well_kinded,
     spelled_equations_are_well_kinded, starting_copies_are_well_kinded,
     starting_domains_are_well_kinded,
 };
