@@ -202,7 +202,7 @@ waiting_kinded tables frame scope m c x o g one two room le =
                     (
                       (waits, small 2 refl, at6),
                       (
-                        (five, six, greater five six at5 at7),
+                        (five, six, greater (d (n + 5)) (d (n + 6)) (d (n + 7)) six at5 at7),
                         ((fits_still kind.Boolean n c d x.hold s o.hold g.hold, keep, at8), ((waits, keep, at9), tt)),
                       ),
                     ),
@@ -233,8 +233,8 @@ waiting_kinded tables frame scope m c x o g one two room le =
             (record { condition = held; value = value }, (record { condition = kept; value = value }, tt))));
       };
     } where
-      greater : {a b e : Class} → Fits kind.Int a → Fits kind.Int b → a ≡ Of kind.Int → e ≡ Of kind.Int → IsEither a b e
-      greater {a} {b} {e} fa fb ea ee = subst (λ z. IsEither z b e) (sym ea) (fb, ee)
+      greater : (a b e : Class) → Fits kind.Int b → a ≡ Of kind.Int → e ≡ Of kind.Int → IsEither a b e
+      greater a b e fb ea ee = subst (λ z. IsEither z b e) (sym ea) (fb, ee)
 
 -- the induction hypothesis on a part
 abbrev Part : Tables → List Kind → Scope → Stmt → Type 0
@@ -340,8 +340,8 @@ seq_kinded tables frame scope p q c x each hp hq lq ip iq given reach =
     let i = behind (n + 2) a.live (below m a.sets) (from m b.sets) (turn_own (n + 4) a) a b in
     let ui = inside_pair (n + 2) a.live m (n + 5) a.next (turn_own (n + 4) a) a b u v (omega arith) (omega arith) (omega (arith, la, gv)) (omega (arith, ga, gv), (omega (arith, sa, gv), tt)) in
     let fi =
-        behind_fitted tables frame scope.domain r m m (m + registers tables q) r end yp yb yi d2 (n + 2) a.live (below m a.sets) (from m b.sets) (turn_own (n + 4) a) a b fa2 fb2 (two_statuses (resumes p) (ends1 p)) (w3.at 2 (omega arith)) fa2.live
-        ((fits_as kind.Int d2 a.status yp fa2.status (class_fits (resumes p)), small 1 refl, turn), tt) (sets_pair frame d2 r m end a.sets b.sets fa2.sets (λ k low high. fb2.sets k low (omega (arith, l, high)))) in
+    behind_fitted tables frame scope.domain r m m (m + registers tables q) r end yp yb yi d2 (n + 2) a.live (below m a.sets) (from m b.sets) (turn_own (n + 4) a) a b fa2 fb2 (two_statuses (resumes p) (ends1 p)) (w3.at 2 (omega arith)) fa2.live
+    ((fits_as kind.Int d2 a.status yp fa2.status (class_fits (resumes p)), small 1 refl, turn), tt) (sets_pair frame d2 r m end a.sets b.sets fa2.sets (λ k low high. fb2.sets k low (omega (arith, l, high)))) in
     let xq = other_context x.go m i x in
     let s3 = w3.below in
     let gq = other_given tables frame scope c d2 q x x.go m (n + 2) i o g s3 ui (omega arith) (omega (arith, ga, gv, lgo)) (fits_still kind.Boolean n c d2 x.go s3 o.go g.go) rest in
@@ -490,12 +490,12 @@ weakly_kinded tables frame scope armed t p c x ft ip given reach =
     let w1 = own_listed c n 5 weak_classes in
     let s1 = w1.below in
     let A =
-        ip c1 (weak_context x)
-        (record {
-          outside = outside_with x.go x.hold n 5 r x o (omega (arith, i)) (omega (arith, j)) (omega arith);
-          fits = context_still tables scope c c1 x x.go x.hold n r (n + 5) o s1 (fits_still kind.Boolean n c c1 x.go s1 o.go g.go) (fits_still kind.Boolean n c c1 x.hold s1 o.hold g.hold) (truth c1 n w1.first) g;
-          registers = given.registers;
-        }) reach in
+    ip c1 (weak_context x)
+    (record {
+      outside = outside_with x.go x.hold n 5 r x o (omega (arith, i)) (omega (arith, j)) (omega arith);
+      fits = context_still tables scope c c1 x x.go x.hold n r (n + 5) o s1 (fits_still kind.Boolean n c c1 x.go s1 o.go g.go) (fits_still kind.Boolean n c c1 x.hold s1 o.hold g.hold) (truth c1 n w1.first) g;
+      registers = given.registers;
+    }) reach in
     weak_kinded tables frame scope r (r + registers tables p) (class_if (resumes p)) t c x (resume tables p (weak_context x)) o g ft (class_fits (resumes p)) A
 
 strongly_kinded : (tables : Tables) (frame : List Kind) (scope : Scope) (armed : Bool) (t : Test) (p : Stmt) (c : ℕ → Class) (x : Context) → fits_test tables scope t ≡ true → Part tables frame scope p → Given tables frame scope c p x → Reaches tables frame scope.domain (x.register + registers tables p)
@@ -512,12 +512,12 @@ strongly_kinded tables frame scope armed t p c x ft ip given reach =
     let s1 = w1.below in
     let a = resume tables p (tested_context x) in
     let A =
-        ip c1 (tested_context x)
-        (record {
-          outside = outside_with (n + 1) x.hold x.keep 7 r x o (omega arith) (omega (arith, j)) (omega (arith, k));
-          fits = context_still tables scope c c1 x (n + 1) x.hold x.keep r (n + 7) o s1 (truth c1 (n + 1) (w1.at 1 (omega arith))) (fits_still kind.Boolean n c c1 x.hold s1 o.hold g.hold) (fits_still kind.Boolean n c c1 x.keep s1 o.keep g.keep) g;
-          registers = given.registers;
-        }) reach in
+    ip c1 (tested_context x)
+    (record {
+      outside = outside_with (n + 1) x.hold x.keep 7 r x o (omega arith) (omega (arith, j)) (omega (arith, k));
+      fits = context_still tables scope c c1 x (n + 1) x.hold x.keep r (n + 7) o s1 (truth c1 (n + 1) (w1.at 1 (omega arith))) (fits_still kind.Boolean n c c1 x.hold s1 o.hold g.hold) (fits_still kind.Boolean n c c1 x.keep s1 o.keep g.keep) g;
+      registers = given.registers;
+    }) reach in
     tested_kinded tables frame scope r (r + registers tables p) a.live 0 (class_if (resumes p)) t c x a o g ft (class_fits (resumes p)) (small 1 refl) A (A.fitted).live
 
 suspended_kinded : (tables : Tables) (frame : List Kind) (scope : Scope) (armed : Bool) (t : Test) (p : Stmt) (c : ℕ → Class) (x : Context) → fits_test tables scope t ≡ true → Part tables frame scope p → Given tables frame scope c p x → Reaches tables frame scope.domain (x.register + registers tables p)
@@ -533,12 +533,12 @@ suspended_kinded tables frame scope armed t p c x ft ip given reach =
     let s1 = w1.below in
     let a = resume tables p (held_context x) in
     let A =
-        ip c1 (held_context x)
-        (record {
-          outside = outside_with (n + 1) (n + 5) x.keep 7 r x o (omega arith) (omega arith) (omega (arith, k));
-          fits = context_still tables scope c c1 x (n + 1) (n + 5) x.keep r (n + 7) o s1 (truth c1 (n + 1) (w1.at 1 (omega arith))) (truth c1 (n + 5) (w1.at 5 (omega arith))) (fits_still kind.Boolean n c c1 x.keep s1 o.keep g.keep) g;
-          registers = given.registers;
-        }) reach in
+    ip c1 (held_context x)
+    (record {
+      outside = outside_with (n + 1) (n + 5) x.keep 7 r x o (omega arith) (omega arith) (omega (arith, k));
+      fits = context_still tables scope c c1 x (n + 1) (n + 5) x.keep r (n + 7) o s1 (truth c1 (n + 1) (w1.at 1 (omega arith))) (truth c1 (n + 5) (w1.at 5 (omega arith))) (fits_still kind.Boolean n c c1 x.keep s1 o.keep g.keep) g;
+      registers = given.registers;
+    }) reach in
     tested_kinded tables frame scope r (r + registers tables p) a.live 1 (class_if (resumes p)) t c x a o g ft (class_fits (resumes p)) (small 2 refl) A (A.fitted).live
 
 last_has : (tables : Tables) (frame : List Kind) (o : Option Kind) (r : ℕ) (d : ℕ → Class) → HasRegisters frame r (value_kinds o) → HasKind tables frame d (last_formula o r) (last_class o)
@@ -566,8 +566,8 @@ locally_kinded tables frame scope s v p c x each ip given reach =
     let end : m + registers tables p ≡ r + registers tables (Local s v p) = omega (arith, l) in
     let front = first_registers frame r (value_kinds ok) (statement_registers tables p) given.registers in
     let A =
-        ip c1 xp (record { outside = op; fits = local_context_fits tables scope s (emits_signal s a.emits) c c1 x o w1 g; registers = further_registers frame r (value_kinds ok) (statement_registers tables p) given.registers })
-        (reaches_less tables frame scope.domain (r + registers tables (Local s v p)) (m + registers tables p) (omega (arith, end)) reach) in
+    ip c1 xp (record { outside = op; fits = local_context_fits tables scope s (emits_signal s a.emits) c c1 x o w1 g; registers = further_registers frame r (value_kinds ok) (statement_registers tables p) given.registers })
+    (reaches_less tables frame scope.domain (r + registers tables (Local s v p)) (m + registers tables p) (omega (arith, end)) reach) in
     subst (λ i. Kinded tables frame scope.domain r i n (class_if (resumes p)) c (resume tables (Local s v p) x)) end
     (local_kinded tables frame scope (m + registers tables p) s (class_if (resumes p)) (last_formula ok r) c x a each o g front (λ d. last_has tables frame ok r d front) (class_fits (resumes p)) (resume_inside tables p xp op) A)
 

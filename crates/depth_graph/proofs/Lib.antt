@@ -8,3 +8,4 @@ pub mod ResumeRests
 pub mod ResumeShows
 pub mod KindedResumes
 pub mod DomainResumes
+pub mod KindedResumingDomains

@@ -18,9 +18,10 @@ ghost use Rattle.depth_graph.specs.definitions.ResumingCopies.{resume};
 ghost use Rattle.wire_code.specs.Formulas.{Satisfies as Meets};
 ghost use Rattle.wire_code.specs.declared.equation.Equation.{Equation as Operation};
 
-/// For any values of wires that satisfy a domain's equations by the resuming copy of its statement, or
-/// operations among which these are spelled, over registers that fit it: they tell a tick of the statement
-/// that the registers stand for.
+/// For any values of wires that satisfy a domain's equations by the resuming copy of its statement (`equations`),
+/// or operations among which these are spelled (`operations`): they tell a tick of what the registers stand for.
+/// The statement is one of a source, its loops wait, and it fits the tables as a domain's, in no trap and no
+/// local signal's block. Its registers fit it. The frame has what is handed in, which for a pure input is 0.
 pub fn resuming_domains_tell_ticks()
     ensures equations { (tables : Tables) (inputs : Inputs) (d ticks : ℕ) (p : Stmt) (f w : ℕ → ℤ)
         → IsSource tables p → LoopsWait p

@@ -101,7 +101,7 @@ conditions_say f w s n some (e ∷ es) h =
         ∙ ap (λ b. is_on w some || b) (emitted_here (is_on w e.condition) first (emitted w es) s q)
     by_test false q g here there = there g ∙ ap (λ b. is_on w some || b) (emitted_there (is_on w e.condition) first (emitted w es) s q)
 
-no_value : (s n some : ℕ) (es : List Emits) → (fold_conditions s n some es).value ≡ 0
+pub no_value : (s n some : ℕ) (es : List Emits) → (fold_conditions s n some es).value ≡ 0
 no_value s n some [] = refl
 no_value s n some (e ∷ es) = by_test (e.signal == s) (no_value s (n + 1) n es) (no_value s n some es)
   where

@@ -127,8 +127,8 @@ further_kinded tables frame all m n c (e ∷ es) some le z b h among =
     let d = first.classes in
     let md : SameBelow m c d = same_less m n c d le first.same in
     let rest =
-        further_kinded tables frame all m a.next d es some (omega (arith, le, size)) (md.at 0 some ∙ z) b.1.1 (kinds_still tables frame m c d es md b.1.1 h.1)
-        (λ w f g. among_back a.equations own all among w f (inr g)) in
+    further_kinded tables frame all m a.next d es some (omega (arith, le, size)) (md.at 0 some ∙ z) b.1.1 (kinds_still tables frame m c d es md b.1.1 h.1)
+    (λ w f g. among_back a.equations own all among w f (inr g)) in
     let g = rest.classes in
     let nd : SameBelow n c g = same_twice n a.next c d g (omega (arith, size)) first.same rest.same in
     let at : g e.wire ≡ c e.wire = (same_less m n c g le nd).at e.wire b.0 in

@@ -1,14 +1,16 @@
 -- Kinds of the wires of local signals, and of the combinations of their emissions.
-use Rattle.std.proofs.Common.{◌≡◌, ℕ, ◌+◌, ◌<◌, ◌≤◌, nat_lt, ◌==◌, pos, Bool, true, false, ◌||◌, cond, List, [], ◌∷◌, ◌++◌, length, Option, Some, None, refl, sym, ap, ◌∙◌, subst, arith}
+use Rattle.std.proofs.Common.{◌≡◌, ℕ, zero, suc, get_or, ◌+◌, ◌<◌, ◌≤◌, nat_lt, ◌==◌, pos, Bool, true, false, ◌||◌, cond, List, [], ◌∷◌, ◌++◌, length, Option, Some, None, refl, sym, ap, ◌∙◌, subst, arith}
 use Rattle.std.proofs.lemmas.Bool.{true≢false, eqb-true, eqb-false, ne_eqb}
 use Rattle.std.specs.Prelude.{unwrap_or}
+use Rattle.std.specs.List.{list_all}
+use Rattle.surf_graph.proofs.Booleans.{left_of, right_of}
 use Rattle.java_values.specs.declared.kind.Kind.{Kind}
 use Rattle.java_values.specs.declared.kind.Kind.TheVariants as kind
 use Rattle.kernel_terms.specs.declared.tables.Tables.{Tables}
 use Rattle.kernel_terms.specs.declared.tables.SignalInfo.{SignalInfo}
 use Rattle.kernel_terms.specs.declared.tables.Combine.TheVariants as combine
-use Rattle.kernel_terms.specs.TableEntries.{signal_at, variable_at, value_kind, is_interface_of}
-use Rattle.kernel_terms.specs.WellFormed.{Scope, combines, can_use, stands_in, is_variable_of}
+use Rattle.kernel_terms.specs.TableEntries.{no_signal, signal_at, variable_at, value_kind, is_interface_of}
+use Rattle.kernel_terms.specs.WellFormed.{Scope, combines, has_entries, is_signal_entry, can_use, stands_in, is_variable_of}
 use Rattle.kernel_rules.specs.definitions.Registers.{statement_registers, value_kinds}
 use Rattle.kernel_rules.specs.definitions.Signals.{put_at}
 use Rattle.tick_code.specs.WellKinded.{Class, Of, Constant, Fits, IsEither}
@@ -24,6 +26,16 @@ use Rattle.surf_graph.proofs.KindedOperations.{listed, listed_below, listed_at, 
 use Rattle.surf_graph.proofs.KindedEquations.{same_less, fits_still, kinds_both}
 use Rattle.surf_graph.proofs.KindedParts.{Fitted, Kinded, same_itself, variables_still, emissions_still, fitted_still, Own, own_listed, own_still, truth, whole, off_fits, at_register, sets_pair}
 
+-- combinations
+
+one_combines : (domains : ℕ) (xs : List SignalInfo) (s : ℕ) → list_all (is_signal_entry domains) xs ≡ true → combines (get_or xs s no_signal).kind (get_or xs s no_signal).combine ≡ true
+one_combines domains [] s h = refl
+one_combines domains (x ∷ xs) zero h = right_of (nat_lt x.domain domains) (combines x.kind x.combine) (left_of (is_signal_entry domains x) (list_all (is_signal_entry domains) xs) h)
+one_combines domains (x ∷ xs) (suc s) h = one_combines domains xs s (right_of (is_signal_entry domains x) (list_all (is_signal_entry domains) xs) h)
+
+pub entries_combine : (tables : Tables) (domains : ℕ) → has_entries tables domains ≡ true → EachCombines tables
+entries_combine tables domains h = record { at = λ s. one_combines domains tables.signals s (left_of (list_all (is_signal_entry domains) tables.signals) _ h) }
+
 -- whether the signal is among those that are emitted
 abbrev pub emits_signal : ℕ → List Emits → Bool
 emits_signal s [] = false
@@ -36,7 +48,7 @@ pub record FoldKinded (tables : Tables) (frame : List Kind) (k : Kind) (b : Bool
   pub some_is : classes r.some ≡ cond b (Of kind.Boolean) (c some)
   pub value_is : classes r.value ≡ cond b (Of k) (c value)
 
-one_class : (b : Bool) (x : Class) → cond b x x ≡ x
+pub one_class : (b : Bool) (x : Class) → cond b x x ≡ x
 one_class true x = refl
 one_class false x = refl
 
@@ -107,7 +119,7 @@ abbrev pub local_classes : Option Kind → Bool → List Class
 local_classes o b =
     cond b (Of kind.Boolean) (Constant (pos 0)) ∷ cond b (Of (unwrap_or o kind.Boolean)) (last_class o) ∷ last_class o ∷ Of kind.Boolean ∷ Of kind.Boolean ∷ Of kind.Boolean ∷ []
 
-last_fits : (o : Option Kind) → Fits (unwrap_or o kind.Boolean) (last_class o)
+pub last_fits : (o : Option Kind) → Fits (unwrap_or o kind.Boolean) (last_class o)
 last_fits None = none_fits kind.Boolean
 last_fits (Some k) = refl
 
@@ -203,8 +215,8 @@ local_kinded tables frame scope m s y last c x a each o g regs hl fy u h =
     let lastfits : Fits (value_kind i2) (d (n + 2)) = subst (λ z. Fits z (d (n + 2))) (sym values) (fits_as (unwrap_or ok kind.Boolean) d (n + 2) (last_class ok) (w.at 2 (omega arith)) (last_fits ok)) in
     let z0 : d 0 ≡ Constant (pos 0) = (w.below).at 0 o.some ∙ g.zero in
     let q =
-        fold_kinded tables frame i2 s a.next 0 (n + 2) a.emits d values u.emits (omega (arith, grows)) (omega (arith, grows)) (off_fits kind.Boolean d z0) lastfits (they_combine ok info refl (each.at s))
-        (λ t. w.at 2 (omega arith) ∙ chosen_class ok info refl t) f.emits in
+    fold_kinded tables frame i2 s a.next 0 (n + 2) a.emits d values u.emits (omega (arith, grows)) (omega (arith, grows)) (off_fits kind.Boolean d z0) lastfits (they_combine ok info refl (each.at s))
+    (λ t. w.at 2 (omega arith) ∙ chosen_class ok info refl t) f.emits in
     let e = q.classes in
     let we = own_still c n 6 a.next xs d e (omega arith) grows q.same w in
     let v = we.below in

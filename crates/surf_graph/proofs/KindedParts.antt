@@ -57,6 +57,7 @@ emissions_still tables n c d [] s b h = tt
 emissions_still tables n c d (e ∷ es) s b h =
     let one = h.0 in (
       record {
+        emitted = one.emitted;
         condition = fits_still kind.Boolean n c d e.condition s b.0 one.condition;
         value = fits_still (value_kind (signal_at tables e.signal)) n c d e.value s b.1.0 one.value;
         pure = λ k. s.at e.value b.1.0 ∙ one.pure k;
@@ -384,8 +385,8 @@ joined_kinded tables frame domain n other a b v (z ∷ zs) c lo la lb lv fo ha h
     let s = listed_below c n xs in
     let mine : is_variable_of tables domain z ≡ true = own z (ap (λ t. t || has zs z) (itself z)) in
     let r =
-        joined_kinded tables frame domain (n + 1) other a b v zs d (omega (arith, lo)) (λ y. let l = la y in omega (arith, l)) (λ y. let l = lb y in omega (arith, l)) (λ y. let l = lv y in omega (arith, l))
-        (fits_still kind.Boolean n c d other s lo fo) (variables_still tables domain n c d a s la ha) (variables_still tables domain n c d b s lb hb) (variables_still tables domain n c d v s lv hv) (λ y h. own y (second (z == y) (has zs y) h)) in
+    joined_kinded tables frame domain (n + 1) other a b v zs d (omega (arith, lo)) (λ y. let l = la y in omega (arith, l)) (λ y. let l = lb y in omega (arith, l)) (λ y. let l = lv y in omega (arith, l))
+    (fits_still kind.Boolean n c d other s lo fo) (variables_still tables domain n c d a s la ha) (variables_still tables domain n c d b s lb hb) (variables_still tables domain n c d v s lv hv) (λ y h. own y (second (z == y) (has zs y) h)) in
     let e = r.classes in
     let g : SameBelow n c e = same_twice n (n + 1) c d e (omega arith) s r.same in
     let at : e n ≡ Of k = (r.same).at n (omega arith) ∙ listed_first c n xs in
@@ -425,15 +426,15 @@ alternatives_kinded tables frame domain ra ma rb mb r m x y z xs ys other n live
     let fa = f.variables in
     let fb = g.variables in
     let j =
-        joined_kinded tables frame domain l other a.variables b.variables wires zs d lo la v.variables (λ e. pick_below (has ys e) (b.variables e) (a.variables e) l (v.variables e) (la e)) fo fa fb
-        (record { at = λ e own. picked tables domain d (b.variables e) (a.variables e) e (has ys e) (fb.at e own) (fa.at e own) }) names in
+    joined_kinded tables frame domain l other a.variables b.variables wires zs d lo la v.variables (λ e. pick_below (has ys e) (b.variables e) (a.variables e) l (v.variables e) (la e)) fo fa fb
+    (record { at = λ e own. picked tables domain d (b.variables e) (a.variables e) e (has ys e) (fb.at e own) (fa.at e own) }) names in
     let e = j.classes in
     let s = j.same in
     let af = fitted_still tables frame domain ra ma i x d e a (same_less a.next l d e grows s) u f in
     let bf = fitted_still tables frame domain rb mb a.next y d e b s v g in
     let h =
-        behind_fitted tables frame domain ra ma rb mb r m x y z e n live S T (own ++ joins other l a.variables b.variables zs) a b af bf both (s.at n ln ∙ at) (fits_still kind.Boolean l d e live s ll fl)
-        (kinds_both tables frame e own (joins other l a.variables b.variables zs) (kinds_still tables frame l d e own s wo ho) j.each) (λ k low high. sets_still (register_kind frame k) l d e (joined S T k) s (ws k) (hs k low high)) in
+    behind_fitted tables frame domain ra ma rb mb r m x y z e n live S T (own ++ joins other l a.variables b.variables zs) a b af bf both (s.at n ln ∙ at) (fits_still kind.Boolean l d e live s ll fl)
+    (kinds_both tables frame e own (joins other l a.variables b.variables zs) (kinds_still tables frame l d e own s wo ho) j.each) (λ k low high. sets_still (register_kind frame k) l d e (joined S T k) s (ws k) (hs k low high)) in
     record { classes = e; same = s; fitted = record { each = h.each; status = h.status; live = h.live; emits = h.emits; variables = j.variables; sets = h.sets } }
 
 -- branches: wires of their own from n on

@@ -1,5 +1,5 @@
 -- Starting copies are well-kinded.
-use Rattle.std.proofs.Common.{◌≡◌, ◌≢◌, ℕ, ℤ, suc, ◌+◌, ◌<◌, ◌≤◌, nat_lt, ◌==◌, pos, rules, Bool, true, false, ◌&&◌, ◌||◌, cond, List, [], ◌∷◌, ◌++◌, length, Option, Some, None, refl, sym, ap, ◌∙◌, subst, arith}
+use Rattle.std.proofs.Common.{◌≡◌, ◌≢◌, ℕ, ℤ, suc, ◌+◌, ◌<◌, ◌≤◌, nat_lt, ◌==◌, pos, rules, Bool, true, false, ◌&&◌, ◌||◌, not, cond, List, [], ◌∷◌, ◌++◌, length, Option, Some, None, refl, sym, ap, ◌∙◌, subst, arith}
 use Rattle.std.specs.Prelude.{unwrap_or}
 use Rattle.std.proofs.lemmas.List.{length-append}
 use Rattle.std.proofs.lemmas.Bool.{true≢false, eqb-true, eqb-false}
@@ -9,11 +9,11 @@ use Rattle.java_values.specs.declared.kind.Kind.TheVariants as kind
 use Rattle.java_values.specs.Kinds.{IsInRange}
 use Rattle.kernel_terms.specs.declared.tables.Tables.{Tables}
 use Rattle.kernel_terms.specs.Limits.{most_traps}
-use Rattle.kernel_terms.specs.TableEntries.{signal_at, variable_at, channel_at, value_kind}
+use Rattle.kernel_terms.specs.TableEntries.{signal_at, variable_at, channel_at, value_kind, is_input}
 use Rattle.kernel_terms.specs.Expressions.{Expression, Test, kind_of}
 use Rattle.kernel_terms.specs.MayEnd.{ends0}
 use Rattle.kernel_terms.specs.Statements.{Stmt, Nothing, Pause, Emit, Assign, If, Present, Seq, Loop, Par, Trap, Exit, Abort, Suspend, Local, Send, Receive, SendWaits, Sent, ReceiveWaits, Received}
-use Rattle.kernel_terms.specs.WellFormed.{Scope, fits_expression, fits_test, fits_statement, is_given, is_emission, is_local_of, is_sender_of, is_variable_of, can_emit, same_kind}
+use Rattle.kernel_terms.specs.WellFormed.{Scope, fits_expression, fits_test, fits_statement, is_given, is_emission, is_local_of, is_sender_of, is_variable_of, can_use, can_emit, same_kind}
 use Rattle.kernel_rules.specs.definitions.Registers.{statement_registers, registers, value_kinds}
 use Rattle.kernel_rules.specs.definitions.Signals.{put_at}
 use Rattle.tick_code.specs.WellKinded.{Class, Of, Constant, Fits, IsEither}
@@ -142,9 +142,9 @@ pause_kinded tables frame scope c x given =
       };
     }
 
-emit_kinded : (tables : Tables) (frame : List Kind) (scope : Scope) (i : ℕ) (e : Option Expression) (c : ℕ → Class) (x : Context) → is_emission tables scope (signal_at tables i).kind e ≡ true → given_literal_divisors e ≡ true → Given tables frame scope c (Emit i e) x
+emit_kinded : (tables : Tables) (frame : List Kind) (scope : Scope) (i : ℕ) (e : Option Expression) (c : ℕ → Class) (x : Context) → can_emit tables scope i ≡ true → is_emission tables scope (signal_at tables i).kind e ≡ true → given_literal_divisors e ≡ true → Given tables frame scope c (Emit i e) x
     → Kinded tables frame scope.domain x.register (x.register + 0) x.next (Of kind.Int) c (start tables (Emit i e) x)
-emit_kinded tables frame scope i e c x h l given =
+emit_kinded tables frame scope i e c x may h l given =
     let o = given.outside in
     let g = given.fits in
     let n = x.next in
@@ -165,6 +165,7 @@ emit_kinded tables frame scope i e c x h l given =
         live = off_fits kind.Boolean d (s.at 0 o.some ∙ g.zero);
         emits = (
           record {
+            emitted = isnt (is_input (signal_at tables i).sort) (right_of (can_use tables scope i) (not (is_input (signal_at tables i).sort)) may);
             condition = go;
             value = fits_as (unwrap_or ok kind.Boolean) d (n + 1) y at1 (emitted_fits tables scope ok c x.wires e g.operands h);
             pure = λ p. at1 ∙ emitted_pure tables scope ok c x.wires e h p;
@@ -174,7 +175,10 @@ emit_kinded tables frame scope i e c x h l given =
         variables = variables_still tables scope.domain n c d x.wires.variables s (o.wires).variables g.variables;
         sets = λ k low high. tt;
       };
-    }
+    } where
+      isnt : (b : Bool) → not b ≡ true → b ≡ false
+      isnt true q = absurd (true≢false (sym q))
+      isnt false q = refl
 
 put_variable : (tables : Tables) (v : ℕ → ℕ) (y n z : ℕ) (t : Bool) (d : ℕ → Class) → (z == y) ≡ t → d n ≡ Of (variable_at tables y).kind → d (v z) ≡ Of (variable_at tables z).kind → d (cond t n (v z)) ≡ Of (variable_at tables z).kind
 put_variable tables v y n z true d e at h = at ∙ ap (λ i. Of (variable_at tables i).kind) (sym (eqb-true z y e))
@@ -512,12 +516,12 @@ weakly_kinded tables frame scope t p c x ft ip given =
     let w1 = own_listed c n 5 weak_classes in
     let s1 = w1.below in
     let A =
-        ip c1 (weak_context x)
-        (record {
-          outside = outside_with x.go x.hold n 5 r x o (omega (arith, i)) (omega (arith, j)) (omega arith);
-          fits = context_still tables scope c c1 x x.go x.hold n r (n + 5) o s1 (fits_still kind.Boolean n c c1 x.go s1 o.go g.go) (fits_still kind.Boolean n c c1 x.hold s1 o.hold g.hold) (truth c1 n w1.first) g;
-          registers = given.registers;
-        }) in
+    ip c1 (weak_context x)
+    (record {
+      outside = outside_with x.go x.hold n 5 r x o (omega (arith, i)) (omega (arith, j)) (omega arith);
+      fits = context_still tables scope c c1 x x.go x.hold n r (n + 5) o s1 (fits_still kind.Boolean n c c1 x.go s1 o.go g.go) (fits_still kind.Boolean n c c1 x.hold s1 o.hold g.hold) (truth c1 n w1.first) g;
+      registers = given.registers;
+    }) in
     weak_kinded tables frame scope r (r + registers tables p) (Of kind.Int) t c x (start tables p (weak_context x)) o g ft refl A
 
 strongly_kinded : (tables : Tables) (frame : List Kind) (scope : Scope) (t : Test) (p : Stmt) (c : ℕ → Class) (x : Context) → fits_test tables scope t ≡ true → Part tables frame scope p → Given tables frame scope c p x
@@ -533,12 +537,12 @@ strongly_kinded tables frame scope t p c x ft ip given =
     let w1 = own_listed c n 7 tested_classes in
     let s1 = w1.below in
     let A =
-        ip c1 (tested_context x)
-        (record {
-          outside = outside_with (n + 1) x.hold x.keep 7 r x o (omega arith) (omega (arith, j)) (omega (arith, k));
-          fits = context_still tables scope c c1 x (n + 1) x.hold x.keep r (n + 7) o s1 (truth c1 (n + 1) (w1.at 1 (omega arith))) (fits_still kind.Boolean n c c1 x.hold s1 o.hold g.hold) (fits_still kind.Boolean n c c1 x.keep s1 o.keep g.keep) g;
-          registers = given.registers;
-        }) in
+    ip c1 (tested_context x)
+    (record {
+      outside = outside_with (n + 1) x.hold x.keep 7 r x o (omega arith) (omega (arith, j)) (omega (arith, k));
+      fits = context_still tables scope c c1 x (n + 1) x.hold x.keep r (n + 7) o s1 (truth c1 (n + 1) (w1.at 1 (omega arith))) (fits_still kind.Boolean n c c1 x.hold s1 o.hold g.hold) (fits_still kind.Boolean n c c1 x.keep s1 o.keep g.keep) g;
+      registers = given.registers;
+    }) in
     tested_kinded tables frame scope r (r + registers tables p) x.go 0 (Of kind.Int) t c x (start tables p (tested_context x)) o g ft refl (small 1 refl) A
     (fits_still kind.Boolean n c A.classes x.go (same_twice n (n + 7) c c1 A.classes (omega arith) s1 A.same) o.go g.go)
 
@@ -581,7 +585,7 @@ trapped_kinded tables frame scope p c x ip given =
 pub start_kinded : (tables : Tables) (frame : List Kind) (scope : Scope) (p : Stmt) → EachCombines tables → fits_statement tables scope p ≡ true → divides_by_literals p ≡ true → Part tables frame scope p
 start_kinded tables frame scope Nothing each h l c x given = plain_kinded tables frame scope x.register (x.register + 0) 0 c x (small 1 refl) given.outside given.fits
 start_kinded tables frame scope Pause each h l c x given = pause_kinded tables frame scope c x given
-start_kinded tables frame scope (Emit s e) each h l c x given = emit_kinded tables frame scope s e c x (right_of (can_emit tables scope s) (is_emission tables scope (signal_at tables s).kind e) h) l given
+start_kinded tables frame scope (Emit s e) each h l c x given = emit_kinded tables frame scope s e c x (left_of (can_emit tables scope s) (is_emission tables scope (signal_at tables s).kind e) h) (right_of (can_emit tables scope s) (is_emission tables scope (signal_at tables s).kind e) h) l given
 start_kinded tables frame scope (Assign y e) each h l c x given = assign_kinded tables frame scope y e c x h l given
 start_kinded tables frame scope (If e p q) each h l c x given =
     let o = given.outside in

@@ -36,4 +36,8 @@ pub mod KindedEquations
 pub mod KindedParts
 pub mod KindedLocals
 pub mod KindedStarts
+pub mod KindedPlaces
+pub mod KindedStatuses
+pub mod KindedDomains
+pub mod KindedDomainOperations
 pub mod Adding

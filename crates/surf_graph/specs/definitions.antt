@@ -4,6 +4,7 @@ pub mod DomainTells
 pub mod EndWires
 pub mod Formulas
 pub mod KindedCopies
+pub mod KindedDomains
 pub mod KindedWires
 pub mod KindedFormulas
 pub mod Operations

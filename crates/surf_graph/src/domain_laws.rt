@@ -20,8 +20,10 @@ ghost use Rattle.surf_graph.specs.definitions.StartingCopies.{start};
 ghost use Rattle.wire_code.specs.Formulas.{Satisfies as Meets};
 ghost use Rattle.wire_code.specs.declared.equation.Equation.{Equation as Operation};
 
-/// For any values of wires that satisfy a domain's equations by the starting copy of its statement, or operations
-/// among which these are spelled: they tell its first tick.
+/// For any values of wires that satisfy a domain's equations by the starting copy of its statement (`equations`),
+/// or operations among which these are spelled (`operations`): they tell a tick of the statement from its start.
+/// The statement is one of a source, its loops wait, and it fits the tables as a domain's, in no trap and no
+/// local signal's block. The frame has what is handed in, which for a pure input is 0.
 pub fn starting_domains_tell_ticks()
     ensures equations { (tables : Tables) (inputs : Inputs) (d ticks : ℕ) (p : Stmt) (f w : ℕ → ℤ)
         → IsSource tables p → LoopsWait p

@@ -18,8 +18,9 @@ pub use domain_laws::{
 };
 pub use expression::{test, value};
 pub use kind_laws::{
-    operations_are_well_kinded, operations_of_formulas_are_well_kinded,
+    fitting_entries_combine, operations_are_well_kinded, operations_of_formulas_are_well_kinded,
     spelled_equations_are_well_kinded, starting_copies_are_well_kinded,
+    starting_domains_are_well_kinded,
 };
 pub use laws::{
     starting_copies_tell_ticks, starting_operations_tell_ticks, starting_ticks_are_told,

@@ -1,11 +1,11 @@
 -- Kinds of the wires of copies.
-use Rattle.std.specs.Prelude.{◌≡◌, ℕ, ◌+◌, ◌<◌, ◌≤◌, pos, Bool, true, ◌&&◌, List, [], ◌∷◌, length, Option, Some, None, slice_index_or}
+use Rattle.std.specs.Prelude.{◌≡◌, ℕ, ◌+◌, ◌<◌, ◌≤◌, pos, Bool, true, false, ◌&&◌, List, [], ◌∷◌, length, Option, Some, None, slice_index_or}
 use Rattle.java_values.specs.declared.kind.Kind.{Kind}
 use Rattle.java_values.specs.declared.kind.Kind.TheVariants.{Boolean, Int}
 use Rattle.kernel_terms.specs.declared.tables.Tables.{Tables}
 use Rattle.kernel_terms.specs.Expressions.{Expression}
 use Rattle.kernel_terms.specs.Statements.{Stmt, Nothing, Pause, Emit, Assign, If, Present, Seq, Loop, Par, Trap, Exit, Abort, Suspend, Local, Send, Receive, SendWaits, Sent, ReceiveWaits, Received}
-use Rattle.kernel_terms.specs.TableEntries.{signal_at, variable_at, value_kind}
+use Rattle.kernel_terms.specs.TableEntries.{signal_at, variable_at, value_kind, is_input}
 use Rattle.kernel_terms.specs.WellFormed.{Scope, combines, is_variable_of}
 use Rattle.kernel_rules.specs.definitions.Registers.{registers}
 use Rattle.tick_code.specs.WellKinded.{Class, Of, Constant, Fits}
@@ -68,8 +68,9 @@ pub record ContextFits (tables : Tables) (scope : Scope) (c : ℕ → Class) (x 
   pub operands : OperandsFit tables scope c x.wires
   pub variables : HaveVariables tables scope.domain c x.wires.variables
 
--- an emission's condition is a truth value, and its value of the signal's kind; a pure signal has 0
+-- An emission is of no input. Its condition is a truth value, and its value of the signal's kind; a pure signal has 0.
 pub record EmissionFits (tables : Tables) (c : ℕ → Class) (e : Emits) : Type 0 where
+  pub emitted : is_input (signal_at tables e.signal).sort ≡ false
   pub condition : Fits Boolean (c e.condition)
   pub value : Fits (value_kind (signal_at tables e.signal)) (c e.value)
   pub pure : (signal_at tables e.signal).kind ≡ None → c e.value ≡ Constant (pos 0)
