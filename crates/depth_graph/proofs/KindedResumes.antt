@@ -5,6 +5,7 @@ use Rattle.std.proofs.lemmas.Bool.{true≢false, eqb-false}
 use Rattle.std.proofs.lemmas.Bool.Decides.{nat_tests}
 use Rattle.java_values.specs.declared.kind.Kind.{Kind}
 use Rattle.java_values.specs.declared.kind.Kind.TheVariants as kind
+use Rattle.kernel_terms.specs.Divisors.{divisors_are_allowed, has_divisors}
 use Rattle.kernel_terms.specs.declared.tables.Tables.{Tables}
 use Rattle.kernel_terms.specs.TableEntries.{signal_at, variable_at, channel_at}
 use Rattle.kernel_terms.specs.Expressions.{Expression, Test}
@@ -16,9 +17,9 @@ use Rattle.tick_code.specs.WellKinded.{Class, Of, Constant, Fits, IsEither}
 use Rattle.surf_graph.specs.definitions.Formulas.{Formula}
 use Rattle.surf_graph.specs.definitions.Copies.{Context, Copy, Sets, has, both_write, own_registers, starting_if, start_context, other_context, part_context, branch_context, second_branch, weak_context, tested_context, local_context, live_own, turn_own, behind, alternatives, below, from, joined}
 use Rattle.surf_graph.specs.definitions.StartingCopies.{writes0, start}
-use Rattle.surf_graph.specs.definitions.KindedWires.{SameBelow, has_literal_divisors}
+use Rattle.surf_graph.specs.definitions.KindedWires.{SameBelow}
 use Rattle.surf_graph.specs.definitions.KindedFormulas.{HasKind}
-use Rattle.surf_graph.specs.definitions.KindedCopies.{EachCombines, HasRegisters, ContextFits, SetsFit, IsKindedCopy, divides_by_literals, register_kind}
+use Rattle.surf_graph.specs.definitions.KindedCopies.{EachCombines, HasRegisters, ContextFits, SetsFit, IsKindedCopy, register_kind}
 use Rattle.surf_graph.proofs.Booleans.{left_of, right_of, either_true}
 use Rattle.surf_graph.proofs.Alternatives.{has_append, has_both_write}
 use Rattle.surf_graph.proofs.Frames.{wires_more, Inside, sets_more, sets_append, sets_if}
@@ -293,7 +294,7 @@ choice_kinded tables frame scope p q c x hp ip iq o g regs reach =
     ((fa.live, fb.live, at1), tt) (sets_pair frame e r m end a.sets b.sets fa.sets (λ k low high. fb.sets k low (omega (arith, l, high))))
     (λ i h. own_resumes tables scope p i hp (left_of (has (writes1 p) i) (has (writes1 q) i) (sym (has_both_write (writes1 p) (writes1 q) i) ∙ h))))
 
-seq_kinded : (tables : Tables) (frame : List Kind) (scope : Scope) (p q : Stmt) (c : ℕ → Class) (x : Context) → EachCombines tables → fits_statement tables scope p ≡ true → fits_statement tables scope q ≡ true → divides_by_literals q ≡ true → Part tables frame scope p → Part tables frame scope q
+seq_kinded : (tables : Tables) (frame : List Kind) (scope : Scope) (p q : Stmt) (c : ℕ → Class) (x : Context) → EachCombines tables → fits_statement tables scope p ≡ true → fits_statement tables scope q ≡ true → divisors_are_allowed q ≡ true → Part tables frame scope p → Part tables frame scope q
     → Given tables frame scope c (Seq p q) x → Reaches tables frame scope.domain (x.register + registers tables (Seq p q))
     → Kinded tables frame scope.domain x.register (x.register + registers tables (Seq p q)) x.next (class_if (resumes (Seq p q))) c (resume tables (Seq p q) x)
 seq_kinded tables frame scope p q c x each hp hq lq ip iq given reach =
@@ -365,7 +366,7 @@ seq_kinded tables frame scope p q c x each hp hq lq ip iq given reach =
       not_less : (k m : ℕ) → nat_lt k m ≡ false → m ≤ k
       not_less k m t = grind (arith, nat_tests)
 
-loop_kinded : (tables : Tables) (frame : List Kind) (scope : Scope) (p : Stmt) (c : ℕ → Class) (x : Context) → EachCombines tables → fits_statement tables scope p ≡ true → divides_by_literals p ≡ true → Part tables frame scope p → Given tables frame scope c p x → Reaches tables frame scope.domain (x.register + registers tables p)
+loop_kinded : (tables : Tables) (frame : List Kind) (scope : Scope) (p : Stmt) (c : ℕ → Class) (x : Context) → EachCombines tables → fits_statement tables scope p ≡ true → divisors_are_allowed p ≡ true → Part tables frame scope p → Given tables frame scope c p x → Reaches tables frame scope.domain (x.register + registers tables p)
     → Kinded tables frame scope.domain x.register (x.register + registers tables p) x.next (class_if (resumes (Loop p))) c (resume tables (Loop p) x)
 loop_kinded tables frame scope p c x each hp lp ip given reach =
     let o = given.outside in
@@ -574,7 +575,7 @@ locally_kinded tables frame scope s v p c x each ip given reach =
 same_part : (tables : Tables) (frame : List Kind) (scope : Scope) (c : ℕ → Class) (p q : Stmt) (x : Context) → statement_registers tables p ≡ statement_registers tables q → Given tables frame scope c p x → Given tables frame scope c q x
 same_part tables frame scope c p q x e h = record { outside = h.outside; fits = h.fits; registers = subst (λ ks. HasRegisters frame x.register ks) e h.registers }
 
-resume_kinded : (tables : Tables) (frame : List Kind) (scope : Scope) (p : Stmt) → EachCombines tables → fits_statement tables scope p ≡ true → divides_by_literals p ≡ true → Part tables frame scope p
+resume_kinded : (tables : Tables) (frame : List Kind) (scope : Scope) (p : Stmt) → EachCombines tables → fits_statement tables scope p ≡ true → divisors_are_allowed p ≡ true → Part tables frame scope p
 resume_kinded tables frame scope Nothing each h l c x given reach = nothing_kinded tables frame scope x.register (x.register + 0) c x given.fits
 resume_kinded tables frame scope Pause each h l c x given reach = pause_kinded tables frame scope c x given
 resume_kinded tables frame scope (Emit s e) each h l c x given reach = nothing_kinded tables frame scope x.register (x.register + 0) c x given.fits
@@ -583,23 +584,23 @@ resume_kinded tables frame scope (If e p q) each h l c x given reach =
     let rest = right_of (is_given tables scope kind.Boolean e) (fits_statement tables scope p && fits_statement tables scope q) h in
     let hp = left_of (fits_statement tables scope p) (fits_statement tables scope q) rest in
     let hq = right_of (fits_statement tables scope p) (fits_statement tables scope q) rest in
-    let ls = right_of (has_literal_divisors e) (divides_by_literals p && divides_by_literals q) l in
-    choice_kinded tables frame scope p q c x hp (resume_kinded tables frame scope p each hp (left_of (divides_by_literals p) (divides_by_literals q) ls)) (resume_kinded tables frame scope q each hq (right_of (divides_by_literals p) (divides_by_literals q) ls)) given.outside given.fits given.registers reach
+    let ls = right_of (has_divisors e) (divisors_are_allowed p && divisors_are_allowed q) l in
+    choice_kinded tables frame scope p q c x hp (resume_kinded tables frame scope p each hp (left_of (divisors_are_allowed p) (divisors_are_allowed q) ls)) (resume_kinded tables frame scope q each hq (right_of (divisors_are_allowed p) (divisors_are_allowed q) ls)) given.outside given.fits given.registers reach
 resume_kinded tables frame scope (Present t p q) each h l c x given reach =
     let rest = right_of (fits_test tables scope t) (fits_statement tables scope p && fits_statement tables scope q) h in
     let hp = left_of (fits_statement tables scope p) (fits_statement tables scope q) rest in
     let hq = right_of (fits_statement tables scope p) (fits_statement tables scope q) rest in
-    choice_kinded tables frame scope p q c x hp (resume_kinded tables frame scope p each hp (left_of (divides_by_literals p) (divides_by_literals q) l)) (resume_kinded tables frame scope q each hq (right_of (divides_by_literals p) (divides_by_literals q) l)) given.outside given.fits given.registers reach
+    choice_kinded tables frame scope p q c x hp (resume_kinded tables frame scope p each hp (left_of (divisors_are_allowed p) (divisors_are_allowed q) l)) (resume_kinded tables frame scope q each hq (right_of (divisors_are_allowed p) (divisors_are_allowed q) l)) given.outside given.fits given.registers reach
 resume_kinded tables frame scope (Seq p q) each h l c x given reach =
     let hp = left_of (fits_statement tables scope p) (fits_statement tables scope q) h in
     let hq = right_of (fits_statement tables scope p) (fits_statement tables scope q) h in
-    let lq = right_of (divides_by_literals p) (divides_by_literals q) l in
-    seq_kinded tables frame scope p q c x each hp hq lq (resume_kinded tables frame scope p each hp (left_of (divides_by_literals p) (divides_by_literals q) l)) (resume_kinded tables frame scope q each hq lq) given reach
+    let lq = right_of (divisors_are_allowed p) (divisors_are_allowed q) l in
+    seq_kinded tables frame scope p q c x each hp hq lq (resume_kinded tables frame scope p each hp (left_of (divisors_are_allowed p) (divisors_are_allowed q) l)) (resume_kinded tables frame scope q each hq lq) given reach
 resume_kinded tables frame scope (Loop p) each h l c x given reach = loop_kinded tables frame scope p c x each h l (resume_kinded tables frame scope p each h l) (same_part tables frame scope c (Loop p) p x refl given) reach
 resume_kinded tables frame scope (Par p q) each h l c x given reach =
     par_kinded tables frame scope p q c x
-    (resume_kinded tables frame scope p each (left_of (fits_statement tables scope p) (fits_statement tables scope q) h) (left_of (divides_by_literals p) (divides_by_literals q) l))
-    (resume_kinded tables frame scope q each (right_of (fits_statement tables scope p) (fits_statement tables scope q) h) (right_of (divides_by_literals p) (divides_by_literals q) l)) given reach
+    (resume_kinded tables frame scope p each (left_of (fits_statement tables scope p) (fits_statement tables scope q) h) (left_of (divisors_are_allowed p) (divisors_are_allowed q) l))
+    (resume_kinded tables frame scope q each (right_of (fits_statement tables scope p) (fits_statement tables scope q) h) (right_of (divisors_are_allowed p) (divisors_are_allowed q) l)) given reach
 resume_kinded tables frame scope (Trap p) each h l c x given reach =
     trapped_kinded tables frame scope p c x (resume_kinded tables frame (record scope { traps = suc scope.traps }) p each h l) (same_part tables frame scope c (Trap p) p x refl given) reach
 resume_kinded tables frame scope (Exit d) each h l c x given reach = nothing_kinded tables frame scope x.register (x.register + 0) c x given.fits
@@ -630,7 +631,7 @@ resume_kinded tables frame scope (Sent ch) each h l c x given reach = absurd (tr
 resume_kinded tables frame scope (ReceiveWaits ch) each h l c x given reach = absurd (true≢false (sym h))
 resume_kinded tables frame scope (Received ch) each h l c x given reach = absurd (true≢false (sym h))
 
-pub resuming_kinded : (tables : Tables) (frame : List Kind) (scope : Scope) (p : Stmt) (c : ℕ → Class) (x : Context) → EachCombines tables → fits_statement tables scope p ≡ true → divides_by_literals p ≡ true → Outside x → ContextFits tables scope c x → HasRegisters frame x.register (statement_registers tables p)
+pub resuming_kinded : (tables : Tables) (frame : List Kind) (scope : Scope) (p : Stmt) (c : ℕ → Class) (x : Context) → EachCombines tables → fits_statement tables scope p ≡ true → divisors_are_allowed p ≡ true → Outside x → ContextFits tables scope c x → HasRegisters frame x.register (statement_registers tables p)
     → ((ch : ℕ) → is_receiver_of tables scope.domain ch ≡ true → x.register + registers tables p < length frame) → IsKindedCopy tables frame scope.domain p x.register x.next c (resume tables p x)
 resuming_kinded tables frame scope p c x each h l o g regs reach =
     kinded_copy tables frame scope.domain p x.register x.next (class_if (resumes p)) c (resume tables p x) (class_fits (resumes p)) (resume_kinded tables frame scope p each h l c x (record { outside = o; fits = g; registers = regs }) reach)

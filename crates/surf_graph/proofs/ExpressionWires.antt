@@ -1,20 +1,22 @@
 -- Equations of single operations say what the formulas say that they stand for.
-use Rattle.std.proofs.Common.{◌≡◌, ◌+◌, ℕ, ℤ, pos, Bool, true, false, ◌&&◌, ◌||◌, not, cond, int_le, int_lt, List, [], ◌∷◌, ◌++◌, refl, ap, ap₂, ◌∙◌}
+use Rattle.std.proofs.Common.{◌≡◌, ◌+◌, ℕ, ℤ, pos, Bool, true, false, ◌&&◌, ◌||◌, not, cond, int_le, int_lt, List, [], ◌∷◌, ◌++◌, Option, Some, None, refl, ap, ap₂, ◌∙◌}
 use Rattle.java_values.specs.Arithmetic.{is_true, of_bool, applied1, applied2, cast_to}
 use Rattle.java_values.specs.declared.kind.Kind.{Kind}
 use Rattle.java_values.specs.declared.kind.Kind.TheVariants as kind
 use Rattle.std.specs.Int.{int_wrap}
+use Rattle.java_values.specs.Kinds.{result_kind1}
+use Rattle.java_values.specs.declared.op.Op1.{Op1}
 use Rattle.java_values.specs.declared.op.Op2.{Op2}
 use Rattle.java_values.specs.declared.op.Op2.TheVariants as op
 use Rattle.kernel_terms.specs.declared.tables.Combine.{Combine}
 use Rattle.kernel_terms.specs.declared.tables.Combine.TheVariants as combine
 use Rattle.kernel_terms.specs.TableEntries.{value_kind}
 use Rattle.kernel_terms.specs.Expressions.{Expression, Literal, Variable, SignalValue, ChannelValue, Unary, Binary, Cast, kind_of, Test, IsPresent, Not, Both, Either}
-use Rattle.kernel_rules.specs.definitions.Expressions.{value_of, holds}
+use Rattle.kernel_rules.specs.definitions.Expressions.{Readings, value_of, holds}
 use Rattle.kernel_rules.specs.definitions.Signals.{combined}
 use Rattle.surf_graph.specs.definitions.Formulas.{Wires, Formula, Const, Get, Same, And, AndNot, Or, Choose, Zero, StatusOf, Status, IsStatus, Greater, OfTrap, OfWeakAbort, Value, Holds, Equation, Satisfies, formula_value, is_on, told_env, readings}
 use Rattle.surf_graph.specs.definitions.Formulas as formula
-use Rattle.surf_graph.specs.definitions.SpelledOut.{gives, value_wires, test_wires, operator_wires, extreme_wires, combined_wires, spelled, spelled_out}
+use Rattle.surf_graph.specs.definitions.SpelledOut.{Computing, gives, is_of, where_given, on_literal, constant_of, divisor_of, folded_to, value_wires, test_wires, operator_wires, extreme_wires, combined_wires, spelled, spelled_out}
 use Rattle.surf_graph.proofs.SetValues.{truth_of}
 use Rattle.std.specs.Ordering.{int_eq}
 use Rattle.surf_graph.proofs.StatusOperations.{same_status, trap_given, weak_abort_given}
@@ -34,6 +36,59 @@ pub meets_both : (f w : ℕ → ℤ) (es ds : List WireEquation) → Meets f w e
 meets_both f w [] ds h k = k
 meets_both f w (e ∷ es) ds h k = (h.0, meets_both f w es ds h.1 k)
 
+-- a constant is the value of what it stands for
+
+given_where : (r : Option Kind) (x m : ℤ) → where_given r x ≡ Some m → m ≡ x
+given_where None x m h = cc
+given_where (Some k) x m h = cc
+
+given_if : (b : Bool) (r : Option Kind) (x m : ℤ) → cond b (where_given r x) None ≡ Some m → m ≡ x
+given_if true r x m h = given_where r x m h
+given_if false r x m h = cc
+
+on_literal_given : (r : Readings) (o : Op1) (e : Expression) (m : ℤ) → on_literal o e ≡ Some m → m ≡ applied1 o (kind_of e) (value_of r e)
+on_literal_given r o (Literal k n) m h = given_if (is_of k n) (result_kind1 o k) (applied1 o k n) m h
+on_literal_given r o (Variable k x) m h = cc
+on_literal_given r o (SignalValue k s) m h = cc
+on_literal_given r o (ChannelValue k c) m h = cc
+on_literal_given r o (Unary k p e) m h = cc
+on_literal_given r o (Binary k p e g) m h = cc
+on_literal_given r o (Cast k e) m h = cc
+
+constant_given : (r : Readings) (g : Expression) (m : ℤ) → constant_of g ≡ Some m → m ≡ value_of r g
+constant_given r (Literal k n) m h = cc
+constant_given r (Variable k x) m h = cc
+constant_given r (SignalValue k s) m h = cc
+constant_given r (ChannelValue k c) m h = cc
+constant_given r (Unary k o e) m h = on_literal_given r o e m h
+constant_given r (Binary k o e g) m h = cc
+constant_given r (Cast k e) m h = cc
+
+divisor_given : (r : Readings) (o : Op2) (g : Expression) (m : ℤ) → divisor_of o g ≡ Some m → m ≡ value_of r g
+divisor_given r op.Mul g m h = cc
+divisor_given r op.Div g m h = constant_given r g m h
+divisor_given r op.Rem g m h = constant_given r g m h
+divisor_given r op.Add g m h = cc
+divisor_given r op.Sub g m h = cc
+divisor_given r op.Shl g m h = cc
+divisor_given r op.Shr g m h = cc
+divisor_given r op.Ushr g m h = cc
+divisor_given r op.Less g m h = cc
+divisor_given r op.LessEq g m h = cc
+divisor_given r op.Greater g m h = cc
+divisor_given r op.GreaterEq g m h = cc
+divisor_given r op.Equal g m h = cc
+divisor_given r op.NotEqual g m h = cc
+divisor_given r op.And g m h = cc
+divisor_given r op.Xor g m h = cc
+divisor_given r op.Or g m h = cc
+divisor_given r op.Both g m h = cc
+divisor_given r op.Either g m h = cc
+
+folded_given : (f w : ℕ → ℤ) (d : Option ℤ) (n : ℕ) (a : Computing) (x : ℤ) → ((m : ℤ) → d ≡ Some m → m ≡ x) → (Meets f w a.equations → w a.wire ≡ x) → Meets f w (folded_to d n a).equations → w (folded_to d n a).wire ≡ x
+folded_given f w None n a x k g h = g h
+folded_given f w (Some m) n a x k g h = h.0 ∙ k m refl
+
 pub value_given : (f w : ℕ → ℤ) (v : Wires) (n : ℕ) (e : Expression) → Meets f w (value_wires v n e).equations → w (value_wires v n e).wire ≡ value_of (readings w v) e
 value_given f w v n (Literal k m) h = h.0
 value_given f w v n (Variable k x) h = refl
@@ -45,11 +100,11 @@ value_given f w v n (Unary k o e) h =
     (meets_back f w a.equations own h).0 ∙ ap (λ x. applied1 o (kind_of e) x) (value_given f w v n e (meets_front f w a.equations own h))
 value_given f w v n (Binary k o e g) h =
     let a = value_wires v n e in
-    let b = value_wires v a.next g in
+    let b = folded_to (divisor_of o g) a.next (value_wires v a.next g) in
     let own : List WireEquation = gives b.next (wire.Apply2 o (kind_of e) (kind_of g) a.wire b.wire) ∷ [] in
     let parts = meets_front f w (a.equations ++ b.equations) own h in
     (meets_back f w (a.equations ++ b.equations) own h).0
-    ∙ ap₂ (λ x y. applied2 o (kind_of e) x (kind_of g) y) (value_given f w v n e (meets_front f w a.equations b.equations parts)) (value_given f w v a.next g (meets_back f w a.equations b.equations parts))
+    ∙ ap₂ (λ x y. applied2 o (kind_of e) x (kind_of g) y) (value_given f w v n e (meets_front f w a.equations b.equations parts)) (folded_given f w (divisor_of o g) a.next (value_wires v a.next g) (value_of (readings w v) g) (λ m e. divisor_given (readings w v) o g m e) (λ s. value_given f w v a.next g s) (meets_back f w a.equations b.equations parts))
 value_given f w v n (Cast k e) h =
     let a = value_wires v n e in
     let own : List WireEquation = gives a.next (wire.Cast (kind_of e) k a.wire) ∷ [] in

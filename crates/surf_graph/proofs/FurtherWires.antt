@@ -1,5 +1,5 @@
 -- Values for the further wires of equations that are spelled out.
-use Rattle.std.proofs.Common.{◌≡◌, ◌+◌, ◌<◌, ◌≤◌, ℕ, ℤ, pos, ◌&&◌, ◌||◌, not, cond, List, [], ◌∷◌, ◌++◌, length, refl, sym, subst, arith, ap, ap₂, ◌∙◌}
+use Rattle.std.proofs.Common.{◌≡◌, ◌+◌, ◌<◌, ◌≤◌, ℕ, ℤ, pos, ◌&&◌, ◌||◌, not, cond, List, [], ◌∷◌, ◌++◌, length, Option, Some, None, refl, sym, subst, arith, ap, ap₂, ◌∙◌}
 use Rattle.std.proofs.lemmas.List.{length-append}
 use Rattle.java_values.specs.Arithmetic.{is_true, of_bool, applied1, applied2, cast_to}
 use Rattle.java_values.specs.declared.kind.Kind.{Kind}
@@ -17,7 +17,7 @@ use Rattle.surf_graph.specs.definitions.Shows.{Outside, Shows}
 use Rattle.kernel_terms.specs.declared.tables.Tables.{Tables}
 use Rattle.kernel_terms.specs.Statements.{Stmt}
 use Rattle.kernel_rules.specs.definitions.TickRule.{Tick}
-use Rattle.surf_graph.specs.definitions.SpelledOut.{Computing, gives, value_wires, test_wires, operator_wires, extreme_wires, combined_wires, spelled, spelled_out}
+use Rattle.surf_graph.specs.definitions.SpelledOut.{Computing, gives, divisor_of, folded_to, value_wires, test_wires, operator_wires, extreme_wires, combined_wires, spelled, spelled_out}
 use Rattle.surf_graph.proofs.ExpressionWires.{meets_both, spelled_given}
 use Rattle.surf_graph.proofs.Frames.{Agreeing, Inside, tells_still, agree_less, agree_twice, wires_more, own, own_agrees, own_first, satisfies_still, value_agrees, reads_more}
 use Rattle.wire_code.specs.Formulas.{Satisfies as Meets, formula_value as given_by, ReadsBelow, IsOrdered}
@@ -79,6 +79,11 @@ computes_two n a b i h k r =
       wire = omega arith;
     }
 
+-- a divisor is one constant
+pub divisor_computes : (d : Option ℤ) (n : ℕ) (a : Computing) → Computes n a → Computes n (folded_to d n a)
+divisor_computes None n a h = h
+divisor_computes (Some m) n a h = record { runs = record { ordered = (refl, tt, tt); size = omega arith }; grows = omega arith; wire = omega arith }
+
 pub value_computes : (v : Wires) (n : ℕ) (e : Expression) → WiresBelow n v → Computes n (value_wires v n e)
 value_computes v n (Literal k m) b = record { runs = record { ordered = (refl, tt, tt); size = omega arith }; grows = omega arith; wire = omega arith }
 value_computes v n (Variable k x) b = record { runs = none_run n; grows = omega arith; wire = b.variables x }
@@ -91,8 +96,8 @@ value_computes v n (Unary k o e) b =
 value_computes v n (Binary k o e g) b =
     let a = value_wires v n e in
     let x = value_computes v n e b in
-    let c = value_wires v a.next g in
-    let y = value_computes v a.next g (wires_more n a.next v x.grows b) in
+    let c = folded_to (divisor_of o g) a.next (value_wires v a.next g) in
+    let y = divisor_computes (divisor_of o g) a.next (value_wires v a.next g) (value_computes v a.next g (wires_more n a.next v x.grows b)) in
     computes_two n a c (wire.Apply2 o (kind_of e) (kind_of g) a.wire c.wire) x y (λ s t. (s, t))
 value_computes v n (Cast k e) b =
     let a = value_wires v n e in

@@ -8,6 +8,7 @@ use Rattle.std.proofs.lemmas.List.Elements.{All-nil, All-cons, All-head, All-tai
 use Rattle.std.proofs.lemmas.List.Sorted.{All-permutation}
 use Rattle.java_values.specs.declared.kind.Kind.{Kind}
 use Rattle.java_values.specs.declared.kind.Kind.TheVariants as kind
+use Rattle.kernel_terms.specs.Divisors.{divisors_are_allowed}
 use Rattle.kernel_terms.specs.declared.tables.Tables.{Tables}
 use Rattle.kernel_terms.specs.Statements.{Stmt}
 use Rattle.kernel_terms.specs.TableEntries.{signal_at, channel_at, variable_at, value_kind, interface_of, variables_of, valued_of, received_by}
@@ -19,7 +20,7 @@ use Rattle.surf_graph.specs.definitions.Copies.{Copy, Sets, has}
 use Rattle.surf_graph.specs.definitions.DomainCopies.{places_read, all_statuses, set_equations, register_equations, register_wires, first_channel_wire, first_presence_wire, first_value_wire, first_wire_before, first_copy_wire, domain_wires, domain_context, domain_of_copy}
 use Rattle.surf_graph.specs.definitions.KindedWires.{SameBelow}
 use Rattle.surf_graph.specs.definitions.KindedFormulas.{HasKind, HaveKinds}
-use Rattle.surf_graph.specs.definitions.KindedCopies.{EachCombines, EmissionsFit, divides_by_literals}
+use Rattle.surf_graph.specs.definitions.KindedCopies.{EachCombines, EmissionsFit}
 use Rattle.surf_graph.specs.definitions.StartingCopies.{start}
 use Rattle.surf_graph.specs.definitions.KindedDomains.{domain_frame, DomainFits, IsKindedDomain, IsWellKindedDomain, wires_end}
 use Rattle.surf_graph.specs.definitions.SpelledOut.{spelled_out}
@@ -170,7 +171,7 @@ domain_operations tables d p a c n es u fe h le order =
     let k = spelled_kinded tables frame (spelled_out n es) n h.classes es (omega (arith, le)) f.zero inside (kinds_any_order tables frame h.classes all es order f.each) (λ w g x. x) in
     record { well = record { classes = k.classes; each = k.each }; fits = fits_too tables d p a n h.classes k.classes u le within k.same f }
 
-pub starting_domain_operations : (tables : Tables) (d : ℕ) (p : Stmt) (n : ℕ) (es : List Equation) → EachCombines tables → fits_statement tables (own_scope d) p ≡ true → divides_by_literals p ≡ true → wires_end tables d p (start tables p (domain_context tables d)) ≤ n
+pub starting_domain_operations : (tables : Tables) (d : ℕ) (p : Stmt) (n : ℕ) (es : List Equation) → EachCombines tables → fits_statement tables (own_scope d) p ≡ true → divisors_are_allowed p ≡ true → wires_end tables d p (start tables p (domain_context tables d)) ≤ n
     → IsPermutation (domain_of_copy tables d p (start tables p (domain_context tables d))).equations es → IsWellKindedDomain tables d p (spelled_out n es) (domain_of_copy tables d p (start tables p (domain_context tables d)))
 starting_domain_operations tables d p n es each h l le order =
     let a = start tables p (domain_context tables d) in

@@ -7,6 +7,7 @@ use Rattle.std.proofs.lemmas.Bool.Decides.{nat_tests}
 use Rattle.java_values.specs.declared.kind.Kind.{Kind}
 use Rattle.java_values.specs.declared.kind.Kind.TheVariants as kind
 use Rattle.java_values.specs.Kinds.{IsInRange}
+use Rattle.kernel_terms.specs.Divisors.{divisors_are_allowed}
 use Rattle.kernel_terms.specs.declared.tables.Tables.{Tables}
 use Rattle.kernel_terms.specs.declared.tables.ChannelInfo.{ChannelInfo}
 use Rattle.kernel_terms.specs.declared.tables.VariableInfo.{VariableInfo}
@@ -22,7 +23,7 @@ use Rattle.surf_graph.specs.definitions.DomainCopies.{wire_for, places_read, all
 use Rattle.surf_graph.specs.definitions.StartingCopies.{start}
 use Rattle.surf_graph.specs.definitions.KindedWires.{SameBelow, OperandsFit}
 use Rattle.surf_graph.specs.definitions.KindedFormulas.{HaveKinds}
-use Rattle.surf_graph.specs.definitions.KindedCopies.{register_kind, EachCombines, HasRegisters, HaveVariables, ContextFits, EmissionsFit, SetsFit, IsKindedCopy, divides_by_literals}
+use Rattle.surf_graph.specs.definitions.KindedCopies.{register_kind, EachCombines, HasRegisters, HaveVariables, ContextFits, EmissionsFit, SetsFit, IsKindedCopy}
 use Rattle.surf_graph.specs.definitions.KindedDomains.{domain_frame, DomainFits, IsKindedDomain}
 use Rattle.surf_graph.proofs.Booleans.{left_of, right_of, both_true}
 use Rattle.surf_graph.proofs.DomainLists.{has_number, number_has}
@@ -282,7 +283,7 @@ domain_kinded tables d p a each u h =
     }
 
 -- by the starting copy of its statement
-pub starting_copy : (tables : Tables) (d : ℕ) (p : Stmt) → EachCombines tables → fits_statement tables (own_scope d) p ≡ true → divides_by_literals p ≡ true
+pub starting_copy : (tables : Tables) (d : ℕ) (p : Stmt) → EachCombines tables → fits_statement tables (own_scope d) p ≡ true → divisors_are_allowed p ≡ true
     → IsKindedCopy tables (domain_frame tables d p) d p 0 (first_copy_wire tables d) (base_class tables d (start tables p (domain_context tables d)).emits) (start tables p (domain_context tables d))
 starting_copy tables d p each h l =
     let es = (start tables p (domain_context tables d)).emits in
@@ -290,7 +291,7 @@ starting_copy tables d p each h l =
     let parts = frame_parts tables d p in
     starting_kinded tables (domain_frame tables d p) (own_scope d) p c (domain_context tables d) each h l (domain_outside tables d) (domain_context_fits tables d es c (base_here tables d es)) parts.statement
 
-pub starting_domain_kinded : (tables : Tables) (d : ℕ) (p : Stmt) → EachCombines tables → fits_statement tables (own_scope d) p ≡ true → divides_by_literals p ≡ true → IsKindedDomain tables d p (domain_of_copy tables d p (start tables p (domain_context tables d)))
+pub starting_domain_kinded : (tables : Tables) (d : ℕ) (p : Stmt) → EachCombines tables → fits_statement tables (own_scope d) p ≡ true → divisors_are_allowed p ≡ true → IsKindedDomain tables d p (domain_of_copy tables d p (start tables p (domain_context tables d)))
 starting_domain_kinded tables d p each h l =
     let a = start tables p (domain_context tables d) in
     domain_kinded tables d p a each (start_inside tables p (domain_context tables d) (domain_outside tables d)) (starting_copy tables d p each h l)

@@ -1,16 +1,22 @@
 -- The operations of expressions and of tests are well-kinded.
-use Rattle.std.proofs.Common.{◌≡◌, ◌≢◌, ℕ, ◌+◌, ◌<◌, ◌≤◌, ◌≤ℤ◌, ℤ, pos, rules, Bool, true, false, ◌&&◌, ◌||◌, not, cond, int_le, List, [], ◌∷◌, ◌++◌, length, Option, Some, None, inl, inr, refl, sym, ap, ◌∙◌, subst, arith}
+use Rattle.std.proofs.Common.{◌≡◌, ◌≢◌, ℕ, zero, suc, ◌+◌, ◌<◌, ◌≤◌, ◌≤ℤ◌, ℤ, pos, negsuc, neg_ℤ, rules, nat_lt, Bool, true, false, ◌&&◌, ◌||◌, not, cond, int_le, List, [], ◌∷◌, ◌++◌, length, Option, Some, None, inl, inr, refl, sym, ap, ◌∙◌, subst, arith}
 use Rattle.std.specs.Ordering.{int_eq}
+use Rattle.std.specs.Int.{int_wrap}
+use Rattle.std.proofs.lemmas.Bool.Decides.{nat_tests}
 use Rattle.std.proofs.lemmas.Bool.{true≢false, eq-eqb, ne_eqb}
 use Rattle.java_values.specs.declared.kind.Kind.{Kind}
 use Rattle.java_values.specs.declared.kind.Kind.TheVariants as kind
+use Rattle.java_values.specs.Arithmetic.{wrapped}
+use Rattle.java_values.proofs.InRangeLemmas.{wrapped_range, wrapped_kept}
+use Rattle.java_values.specs.declared.op.Op1.{Op1}
+use Rattle.java_values.specs.declared.op.Op1.TheVariants as op1
 use Rattle.java_values.specs.declared.op.Op2.{Op2}
 use Rattle.java_values.specs.declared.op.Op2.TheVariants as op
-use Rattle.java_values.specs.Kinds.{IsInRange, lowest, highest, result_kind1, result_kind2, is_castable}
+use Rattle.java_values.specs.Kinds.{IsInRange, lowest, highest, is_integer, result_kind1, result_kind2, is_castable}
 use Rattle.kernel_terms.specs.declared.tables.Tables.{Tables}
 use Rattle.kernel_terms.specs.TableEntries.{signal_at, channel_at, variable_at}
 use Rattle.kernel_terms.specs.WellFormed.{Scope, can_use, is_variable_of, is_receiver_of, same_kind, is_of_kind, fits_expression, fits_test}
-use Rattle.kernel_terms.specs.Divisors.{is_nonzero}
+use Rattle.kernel_terms.specs.Divisors.{is_nonzero, is_number, is_minus, is_divisor, is_allowed, has_divisors}
 use Rattle.kernel_terms.specs.Expressions.{Expression, Literal, Variable, SignalValue, ChannelValue, Unary, Binary, Cast, kind_of, Test, IsPresent, Not, Both, Either}
 use Rattle.kernel_rules.specs.definitions.Signals.{put_at}
 use Rattle.wire_code.specs.declared.formula.Formula.{Formula as Operation}
@@ -19,11 +25,11 @@ use Rattle.wire_code.specs.declared.equation.Equation.{Equation}
 use Rattle.wire_code.specs.Formulas.{ReadsBelow, IsOrdered}
 use Rattle.tick_code.specs.WellKinded.{Class, Of, Constant, Fits, IsOf, Gives, IsSafeDivisor, DividesSafely, IsEither, HasClass, HaveClasses}
 use Rattle.surf_graph.specs.definitions.Formulas.{Wires, WiresBelow}
-use Rattle.surf_graph.specs.definitions.KindedWires.{SameBelow, OperandsFit, Among, IsKinded, divides, is_literal_divisor, has_literal_divisors, value_class, test_class}
-use Rattle.surf_graph.specs.definitions.SpelledOut.{Computing, gives, value_wires, test_wires}
+use Rattle.surf_graph.specs.definitions.KindedWires.{SameBelow, OperandsFit, Among, IsKinded, value_class, test_class}
+use Rattle.surf_graph.specs.definitions.SpelledOut.{Computing, gives, is_of, on_literal, constant_of, divisor_of, folded_to, value_wires, test_wires}
 use Rattle.surf_graph.proofs.Booleans.{left_of, right_of}
 use Rattle.surf_graph.proofs.Frames.{wires_more}
-use Rattle.surf_graph.proofs.FurtherWires.{Computes, value_computes, test_computes}
+use Rattle.surf_graph.proofs.FurtherWires.{Computes, divisor_computes, value_computes, test_computes}
 
 -- kinds that are the same
 
@@ -199,60 +205,195 @@ none_fits kind.Long = record { low = search rules; high = search rules }
 after : {i m n : ℕ} → i < m → m ≤ n → i < n
 after {i} {m} {n} h k = omega (arith, h, k)
 
-no_division : (o : Op2) (all : List Equation) (w : ℕ) → divides o ≡ false → DividesSafely o all w
-no_division op.Mul all w h = tt
-no_division op.Rem all w h = cc
-no_division op.Div all w h = cc
-no_division op.Add all w h = tt
-no_division op.Sub all w h = tt
-no_division op.Shl all w h = tt
-no_division op.Shr all w h = tt
-no_division op.Ushr all w h = tt
-no_division op.Less all w h = tt
-no_division op.LessEq all w h = tt
-no_division op.Greater all w h = tt
-no_division op.GreaterEq all w h = tt
-no_division op.Equal all w h = tt
-no_division op.NotEqual all w h = tt
-no_division op.And all w h = tt
-no_division op.Xor all w h = tt
-no_division op.Or all w h = tt
-no_division op.Both all w h = tt
-no_division op.Either all w h = tt
+safe_divisor : (o : Op2) (all : List Equation) (w : ℕ) → IsSafeDivisor all w → DividesSafely o all w
+safe_divisor op.Mul all w h = tt
+safe_divisor op.Div all w h = h
+safe_divisor op.Rem all w h = h
+safe_divisor op.Add all w h = tt
+safe_divisor op.Sub all w h = tt
+safe_divisor op.Shl all w h = tt
+safe_divisor op.Shr all w h = tt
+safe_divisor op.Ushr all w h = tt
+safe_divisor op.Less all w h = tt
+safe_divisor op.LessEq all w h = tt
+safe_divisor op.Greater all w h = tt
+safe_divisor op.GreaterEq all w h = tt
+safe_divisor op.Equal all w h = tt
+safe_divisor op.NotEqual all w h = tt
+safe_divisor op.And all w h = tt
+safe_divisor op.Xor all w h = tt
+safe_divisor op.Or all w h = tt
+safe_divisor op.Both all w h = tt
+safe_divisor op.Either all w h = tt
 
-a_division : (o : Op2) (all : List Equation) (w : ℕ) → divides o ≡ true → IsSafeDivisor all w → DividesSafely o all w
-a_division op.Mul all w d k = cc
-a_division op.Rem all w d k = k
-a_division op.Div all w d k = k
-a_division op.Add all w d k = cc
-a_division op.Sub all w d k = cc
-a_division op.Shl all w d k = cc
-a_division op.Shr all w d k = cc
-a_division op.Ushr all w d k = cc
-a_division op.Less all w d k = cc
-a_division op.LessEq all w d k = cc
-a_division op.Greater all w d k = cc
-a_division op.GreaterEq all w d k = cc
-a_division op.Equal all w d k = cc
-a_division op.NotEqual all w d k = cc
-a_division op.And all w d k = cc
-a_division op.Xor all w d k = cc
-a_division op.Or all w d k = cc
-a_division op.Both all w d k = cc
-a_division op.Either all w d k = cc
+-- a number of the kind other than 0
+record IsDivisor (k : Kind) (m : ℤ) : Type 0 where
+  pub range : IsInRange k m
+  pub not_zero : m ≢ pos 0
 
-literal_divides : (all : List Equation) (v : Wires) (n : ℕ) (g : Expression) → is_literal_divisor g ≡ true → Among (value_wires v n g).equations all → IsSafeDivisor all (value_wires v n g).wire
-literal_divides all v n (Literal k m) h among = record { divisor = m; gives = among n (wire.Const m) (inl (refl, refl)); not_zero = not_nothing m h }
-literal_divides all v n (Variable k x) h among = cc
-literal_divides all v n (SignalValue k s) h among = cc
-literal_divides all v n (ChannelValue k c) h among = cc
-literal_divides all v n (Unary k o e) h among = cc
-literal_divides all v n (Binary k o e g) h among = cc
-literal_divides all v n (Cast k e) h among = cc
+abbrev IsSome : Option ℤ → Kind → Type 0
+IsSome None k = ⊥
+IsSome (Some m) k = IsDivisor k m
 
-divides_safely : (all : List Equation) (v : Wires) (n : ℕ) (o : Op2) (g : Expression) (b : Bool) → divides o ≡ b → not b || is_literal_divisor g ≡ true → Among (value_wires v n g).equations all → DividesSafely o all (value_wires v n g).wire
-divides_safely all v n o g true d h among = a_division o all (value_wires v n g).wire d (literal_divides all v n g h among)
-divides_safely all v n o g false d h among = no_division o all (value_wires v n g).wire d
+int_below : (a : ℕ) → pos (suc a) ≤ℤ highest kind.Int → IsInRange kind.Int (negsuc a)
+int_below a h = record { low = search rules; high = search rules }
+
+int_above : (a : ℕ) → a < 2147483647 → IsInRange kind.Int (pos (suc a))
+int_above a h = record { low = search rules; high = search rules }
+
+int_least : wrapped kind.Int (pos 2147483648) ≢ pos 0
+unfolding int_wrap
+int_least h = cc
+
+int_most : (a : ℕ) → lowest kind.Int ≤ℤ negsuc a → a ≤ 2147483647
+int_most a h = search rules
+
+int_minus_negative : (a : ℕ) → lowest kind.Int ≤ℤ negsuc a → wrapped kind.Int (pos (suc a)) ≢ pos 0
+int_minus_negative a h = by_test (nat_lt a 2147483647) refl where
+  is_less : nat_lt a 2147483647 ≡ true → a < 2147483647
+  is_less e = grind (arith, nat_tests)
+
+  isnt_less : nat_lt a 2147483647 ≡ false → 2147483647 ≤ a
+  isnt_less e = grind (arith, nat_tests)
+
+  by_test : (b : Bool) → nat_lt a 2147483647 ≡ b → wrapped kind.Int (pos (suc a)) ≢ pos 0
+  by_test true e w = let k : pos (suc a) ≡ pos 0 = sym (wrapped_kept kind.Int (pos (suc a)) (int_above a (is_less e))) ∙ w in cc
+  by_test false e w =
+      let least = int_most a h in
+      let more = isnt_less e in
+      let is : a ≡ 2147483647 = omega (arith, least, more) in
+      int_least (ap (λ i. wrapped kind.Int (pos (suc i))) (sym is) ∙ w)
+
+int_minus : (n : ℤ) → IsInRange kind.Int n → n ≢ pos 0 → wrapped kind.Int (neg_ℤ n) ≢ pos 0
+int_minus (pos zero) h k = absurd (k refl)
+int_minus (pos (suc a)) h k = λ w. let e : negsuc a ≡ pos 0 = sym (wrapped_kept kind.Int (negsuc a) (int_below a h.high)) ∙ w in cc
+int_minus (negsuc a) h k = int_minus_negative a h.low
+
+long_below : (a : ℕ) → pos (suc a) ≤ℤ highest kind.Long → IsInRange kind.Long (negsuc a)
+long_below a h = record { low = search rules; high = search rules }
+
+long_above : (a : ℕ) → a < 9223372036854775807 → IsInRange kind.Long (pos (suc a))
+long_above a h = record { low = search rules; high = search rules }
+
+long_least : wrapped kind.Long (pos 9223372036854775808) ≢ pos 0
+unfolding int_wrap
+long_least h = cc
+
+long_most : (a : ℕ) → lowest kind.Long ≤ℤ negsuc a → a ≤ 9223372036854775807
+long_most a h = search rules
+
+long_minus_negative : (a : ℕ) → lowest kind.Long ≤ℤ negsuc a → wrapped kind.Long (pos (suc a)) ≢ pos 0
+long_minus_negative a h = by_test (nat_lt a 9223372036854775807) refl where
+  is_less : nat_lt a 9223372036854775807 ≡ true → a < 9223372036854775807
+  is_less e = grind (arith, nat_tests)
+
+  isnt_less : nat_lt a 9223372036854775807 ≡ false → 9223372036854775807 ≤ a
+  isnt_less e = grind (arith, nat_tests)
+
+  by_test : (b : Bool) → nat_lt a 9223372036854775807 ≡ b → wrapped kind.Long (pos (suc a)) ≢ pos 0
+  by_test true e w = let k : pos (suc a) ≡ pos 0 = sym (wrapped_kept kind.Long (pos (suc a)) (long_above a (is_less e))) ∙ w in cc
+  by_test false e w =
+      let least = long_most a h in
+      let more = isnt_less e in
+      let is : a ≡ 9223372036854775807 = omega (arith, least, more) in
+      long_least (ap (λ i. wrapped kind.Long (pos (suc i))) (sym is) ∙ w)
+
+long_minus : (n : ℤ) → IsInRange kind.Long n → n ≢ pos 0 → wrapped kind.Long (neg_ℤ n) ≢ pos 0
+long_minus (pos zero) h k = absurd (k refl)
+long_minus (pos (suc a)) h k = λ w. let e : negsuc a ≡ pos 0 = sym (wrapped_kept kind.Long (negsuc a) (long_below a h.high)) ∙ w in cc
+long_minus (negsuc a) h k = long_minus_negative a h.low
+
+minus_int : (k : Kind) (n : ℤ) → is_of kind.Int n ≡ true → is_of_kind (Some kind.Int) k ≡ true → is_nonzero n ≡ true → IsSome (on_literal op1.Minus (Literal kind.Int n)) k
+minus_int k n f r h =
+    subst (λ b. IsSome (cond b (Some (wrapped kind.Int (neg_ℤ n))) None) k) (sym f)
+    (subst (λ l. IsDivisor l (wrapped kind.Int (neg_ℤ n))) (same_kind_is kind.Int k r)
+    (record { range = wrapped_range kind.Int (neg_ℤ n); not_zero = int_minus n (between kind.Int n f) (not_nothing n h) }))
+
+minus_long : (k : Kind) (n : ℤ) → is_of kind.Long n ≡ true → is_of_kind (Some kind.Long) k ≡ true → is_nonzero n ≡ true → IsSome (on_literal op1.Minus (Literal kind.Long n)) k
+minus_long k n f r h =
+    subst (λ b. IsSome (cond b (Some (wrapped kind.Long (neg_ℤ n))) None) k) (sym f)
+    (subst (λ l. IsDivisor l (wrapped kind.Long (neg_ℤ n))) (same_kind_is kind.Long k r)
+    (record { range = wrapped_range kind.Long (neg_ℤ n); not_zero = long_minus n (between kind.Long n f) (not_nothing n h) }))
+
+minus_number : (tables : Tables) (scope : Scope) (k : Kind) (e : Expression) → fits_expression tables scope e ≡ true → is_of_kind (result_kind1 op1.Minus (kind_of e)) k ≡ true → is_number e ≡ true → IsSome (on_literal op1.Minus e) k
+minus_number tables scope k (Literal kind.Int n) f r h = minus_int k n f r h
+minus_number tables scope k (Literal kind.Long n) f r h = minus_long k n f r h
+minus_number tables scope k (Literal kind.Boolean n) f r h = cc
+minus_number tables scope k (Literal kind.Byte n) f r h = cc
+minus_number tables scope k (Literal kind.Short n) f r h = cc
+minus_number tables scope k (Literal kind.Char n) f r h = cc
+minus_number tables scope k (Variable l x) f r h = cc
+minus_number tables scope k (SignalValue l s) f r h = cc
+minus_number tables scope k (ChannelValue l c) f r h = cc
+minus_number tables scope k (Unary l o e) f r h = cc
+minus_number tables scope k (Binary l o e g) f r h = cc
+minus_number tables scope k (Cast l e) f r h = cc
+
+minus_divides : (tables : Tables) (scope : Scope) (k : Kind) (o : Op1) (e : Expression) → fits_expression tables scope e ≡ true → is_of_kind (result_kind1 o (kind_of e)) k ≡ true → is_minus o && is_number e ≡ true → IsSome (on_literal o e) k
+minus_divides tables scope k op1.Minus e f r h = minus_number tables scope k e f r h
+minus_divides tables scope k op1.Plus e f r h = cc
+minus_divides tables scope k op1.BitNot e f r h = cc
+minus_divides tables scope k op1.Not e f r h = cc
+
+divisor_is : (tables : Tables) (scope : Scope) (g : Expression) → fits_expression tables scope g ≡ true → is_divisor g ≡ true → IsSome (constant_of g) (kind_of g)
+divisor_is tables scope (Literal k m) f h = record { range = between k m f; not_zero = not_nothing m (right_of (is_integer k) (is_nonzero m) h) }
+divisor_is tables scope (Variable k x) f h = cc
+divisor_is tables scope (SignalValue k s) f h = cc
+divisor_is tables scope (ChannelValue k c) f h = cc
+divisor_is tables scope (Unary k o e) f h =
+    minus_divides tables scope k o e (left_of (fits_expression tables scope e) (is_of_kind (result_kind1 o (kind_of e)) k) f) (right_of (fits_expression tables scope e) (is_of_kind (result_kind1 o (kind_of e)) k) f) h
+divisor_is tables scope (Binary k o e g) f h = cc
+divisor_is tables scope (Cast k e) f h = cc
+
+-- an operator with this divisor divides safely, as does one without
+abbrev Allows : Op2 → Kind → Option ℤ → Type 0
+Allows o k None = (all : List Equation) (w : ℕ) → DividesSafely o all w
+Allows o k (Some m) = IsDivisor k m
+
+some_allows : (o : Op2) (k : Kind) (d : Option ℤ) → IsSome d k → Allows o k d
+some_allows o k None h = absurd h
+some_allows o k (Some m) h = h
+
+allowed_divisor : (tables : Tables) (scope : Scope) (o : Op2) (g : Expression) → fits_expression tables scope g ≡ true → is_allowed o g ≡ true → Allows o (kind_of g) (divisor_of o g)
+allowed_divisor tables scope op.Mul g f h = λ all w. tt
+allowed_divisor tables scope op.Div g f h = some_allows op.Div (kind_of g) (constant_of g) (divisor_is tables scope g f h)
+allowed_divisor tables scope op.Rem g f h = some_allows op.Rem (kind_of g) (constant_of g) (divisor_is tables scope g f h)
+allowed_divisor tables scope op.Add g f h = λ all w. tt
+allowed_divisor tables scope op.Sub g f h = λ all w. tt
+allowed_divisor tables scope op.Shl g f h = λ all w. tt
+allowed_divisor tables scope op.Shr g f h = λ all w. tt
+allowed_divisor tables scope op.Ushr g f h = λ all w. tt
+allowed_divisor tables scope op.Less g f h = λ all w. tt
+allowed_divisor tables scope op.LessEq g f h = λ all w. tt
+allowed_divisor tables scope op.Greater g f h = λ all w. tt
+allowed_divisor tables scope op.GreaterEq g f h = λ all w. tt
+allowed_divisor tables scope op.Equal g f h = λ all w. tt
+allowed_divisor tables scope op.NotEqual g f h = λ all w. tt
+allowed_divisor tables scope op.And g f h = λ all w. tt
+allowed_divisor tables scope op.Xor g f h = λ all w. tt
+allowed_divisor tables scope op.Or g f h = λ all w. tt
+allowed_divisor tables scope op.Both g f h = λ all w. tt
+allowed_divisor tables scope op.Either g f h = λ all w. tt
+
+abbrev folded_class : Option ℤ → Class → Class
+folded_class None x = x
+folded_class (Some m) x = Constant m
+
+folded_fits : (o : Op2) (k : Kind) (d : Option ℤ) (x : Class) → Allows o k d → Fits k x → Fits k (folded_class d x)
+folded_fits o k None x h f = f
+folded_fits o k (Some m) x h f = h.range
+
+folded_kinded : (frame : List Kind) (all : List Equation) (n : ℕ) (c : ℕ → Class) (x : Class) (d : Option ℤ) (a : Computing) → (Among a.equations all → IsKinded frame all n c x a) → Among (folded_to d n a).equations all
+    → IsKinded frame all n c (folded_class d x) (folded_to d n a)
+folded_kinded frame all n c x None a h among = h among
+folded_kinded frame all n c x (Some m) a h among =
+    let here = put_here c n (Constant m) in
+    record { classes = put_at c n (Constant m); same = put_below c n (Constant m); each = (here, tt); wire = here }
+
+divides_safely : (all : List Equation) (n : ℕ) (o : Op2) (k : Kind) (d : Option ℤ) (a : Computing) → Allows o k d → Among (folded_to d n a).equations all → DividesSafely o all (folded_to d n a).wire
+divides_safely all n o k None a h among = h all a.wire
+divides_safely all n o k (Some m) a h among =
+    safe_divisor o all n (record { divisor = m; gives = among n (wire.Const m) (inl (refl, refl)); not_zero = h.not_zero })
 
 -- expressions
 
@@ -269,7 +410,7 @@ value_fits tables scope c v (Binary k o e g) fit f = refl
 value_fits tables scope c v (Cast k e) fit f = refl
 
 pub value_kinded : (tables : Tables) (scope : Scope) (frame : List Kind) (all : List Equation) (v : Wires) (e : Expression) (n : ℕ) (c : ℕ → Class) → WiresBelow n v → OperandsFit tables scope c v → fits_expression tables scope e ≡ true
-    → has_literal_divisors e ≡ true → Among (value_wires v n e).equations all → IsKinded frame all n c (value_class c v e) (value_wires v n e)
+    → has_divisors e ≡ true → Among (value_wires v n e).equations all → IsKinded frame all n c (value_class c v e) (value_wires v n e)
 value_kinded tables scope frame all v (Literal k m) n c b fit f d among =
     let here = put_here c n (Constant m) in
     record { classes = put_at c n (Constant m); same = put_below c n (Constant m); each = (here, tt); wire = here }
@@ -287,7 +428,8 @@ value_kinded tables scope frame all v (Unary k o e) n c b fit f d among =
 value_kinded tables scope frame all v (Binary k o e g) n c b fit f d among =
     let a = value_wires v n e in
     let x = value_computes v n e b in
-    let right = value_wires v a.next g in
+    let plain = value_wires v a.next g in
+    let right = folded_to (divisor_of o g) a.next plain in
     let own : List Equation = gives right.next (wire.Apply2 o (kind_of e) (kind_of g) a.wire right.wire) ∷ [] in
     let both = among_front (a.equations ++ right.equations) own all among in
     let second = among_back a.equations right.equations all both in
@@ -295,17 +437,18 @@ value_kinded tables scope frame all v (Binary k o e g) n c b fit f d among =
     let rest = right_of (fits_expression tables scope e) (fits_expression tables scope g && is_of_kind (result_kind2 o (kind_of e) (kind_of g)) k) f in
     let fg = left_of (fits_expression tables scope g) (is_of_kind (result_kind2 o (kind_of e) (kind_of g)) k) rest in
     let fk = right_of (fits_expression tables scope g) (is_of_kind (result_kind2 o (kind_of e) (kind_of g)) k) rest in
-    let de = left_of (has_literal_divisors e) (has_literal_divisors g && (not (divides o) || is_literal_divisor g)) d in
-    let dr = right_of (has_literal_divisors e) (has_literal_divisors g && (not (divides o) || is_literal_divisor g)) d in
-    let dg = left_of (has_literal_divisors g) (not (divides o) || is_literal_divisor g) dr in
-    let da = right_of (has_literal_divisors g) (not (divides o) || is_literal_divisor g) dr in
+    let de = left_of (has_divisors e) (has_divisors g && is_allowed o g) d in
+    let dr = right_of (has_divisors e) (has_divisors g && is_allowed o g) d in
+    let dg = left_of (has_divisors g) (is_allowed o g) dr in
+    let da = right_of (has_divisors g) (is_allowed o g) dr in
     let more = wires_more n a.next v x.grows b in
     let y = value_kinded tables scope frame all v e n c b fit fe de (among_front a.equations right.equations all both) in
-    let z = value_computes v a.next g more in
+    let z = divisor_computes (divisor_of o g) a.next plain (value_computes v a.next g more) in
+    let may = allowed_divisor tables scope o g fg da in
     let still = operands_still tables scope n c y.classes v b y.same fit in
-    let u = value_kinded tables scope frame all v g a.next y.classes more still fg dg second in
-    kinded_two frame all n c (kind_of e) (kind_of g) k (value_class c v e) (value_class y.classes v g) a right (wire.Apply2 o (kind_of e) (kind_of g) a.wire right.wire) x z (value_fits tables scope c v e fit fe) (value_fits tables scope y.classes v g still fg) y u (after x.wire z.grows, z.wire)
-    (λ q i j. (i, j, divides_safely all v a.next o g (divides o) refl da second, result_is (result_kind2 o (kind_of e) (kind_of g)) k fk))
+    let u = folded_kinded frame all a.next y.classes (value_class y.classes v g) (divisor_of o g) plain (λ s. value_kinded tables scope frame all v g a.next y.classes more still fg dg s) second in
+    kinded_two frame all n c (kind_of e) (kind_of g) k (value_class c v e) (folded_class (divisor_of o g) (value_class y.classes v g)) a right (wire.Apply2 o (kind_of e) (kind_of g) a.wire right.wire) x z (value_fits tables scope c v e fit fe) (folded_fits o (kind_of g) (divisor_of o g) (value_class y.classes v g) may (value_fits tables scope y.classes v g still fg)) y u (after x.wire z.grows, z.wire)
+    (λ q i j. (i, j, divides_safely all a.next o (kind_of g) (divisor_of o g) plain may second, result_is (result_kind2 o (kind_of e) (kind_of g)) k fk))
 value_kinded tables scope frame all v (Cast k e) n c b fit f d among =
     let a = value_wires v n e in
     let x = value_computes v n e b in

@@ -7,6 +7,7 @@ use Rattle.std.proofs.lemmas.Bool.Decides.{nat_tests}
 use Rattle.java_values.specs.declared.kind.Kind.{Kind}
 use Rattle.java_values.specs.declared.kind.Kind.TheVariants as kind
 use Rattle.java_values.specs.Kinds.{IsInRange}
+use Rattle.kernel_terms.specs.Divisors.{divisors_are_allowed, given_divisors, has_divisors}
 use Rattle.kernel_terms.specs.declared.tables.Tables.{Tables}
 use Rattle.kernel_terms.specs.Limits.{most_traps}
 use Rattle.kernel_terms.specs.TableEntries.{signal_at, variable_at, channel_at, value_kind, is_input}
@@ -20,9 +21,9 @@ use Rattle.tick_code.specs.WellKinded.{Class, Of, Constant, Fits, IsEither}
 use Rattle.surf_graph.specs.definitions.Formulas.{Wires, WiresBelow, Formula, Reads, Value, Holds}
 use Rattle.surf_graph.specs.definitions.Copies.{own_registers, Context, Copy, Emits, Sets, has, both_write, emitted_value, starting_if, start_context, other_context, part_context, branch_context, second_branch, weak_context, tested_context, local_context, choice_own, turn_own, behind, below, from}
 use Rattle.surf_graph.specs.definitions.StartingCopies.{first_formula, chosen_copy, writes0, start}
-use Rattle.surf_graph.specs.definitions.KindedWires.{SameBelow, OperandsFit, has_literal_divisors, value_class}
+use Rattle.surf_graph.specs.definitions.KindedWires.{SameBelow, OperandsFit, value_class}
 use Rattle.surf_graph.specs.definitions.KindedFormulas.{HasKind, HaveKinds}
-use Rattle.surf_graph.specs.definitions.KindedCopies.{EachCombines, HasRegisters, HaveVariables, ContextFits, EmissionsFit, SetsFit, IsKindedCopy, divides_by_literals, given_literal_divisors, register_kind}
+use Rattle.surf_graph.specs.definitions.KindedCopies.{EachCombines, HasRegisters, HaveVariables, ContextFits, EmissionsFit, SetsFit, IsKindedCopy, register_kind}
 use Rattle.surf_graph.proofs.Booleans.{left_of, right_of, either_true}
 use Rattle.surf_graph.proofs.Alternatives.{has_append, has_both_write}
 use Rattle.surf_graph.proofs.Frames.{wires_more, Inside, SetsBelow, sets_more}
@@ -41,7 +42,7 @@ given_fits tables scope k c v e o h =
     (value_fits tables scope c v e o (left_of (fits_expression tables scope e) (same_kind (kind_of e) k) h))
 
 -- the formula of an expression whose wire has this class
-pub value_has : (tables : Tables) (frame : List Kind) (scope : Scope) (k : Kind) (n a : ℕ) (c d : ℕ → Class) (v : Wires) (e : Expression) → WiresBelow n v → SameBelow n c d → OperandsFit tables scope c v → is_given tables scope k e ≡ true → has_literal_divisors e ≡ true
+pub value_has : (tables : Tables) (frame : List Kind) (scope : Scope) (k : Kind) (n a : ℕ) (c d : ℕ → Class) (v : Wires) (e : Expression) → WiresBelow n v → SameBelow n c d → OperandsFit tables scope c v → is_given tables scope k e ≡ true → has_divisors e ≡ true
     → d a ≡ value_class c v e → HasKind tables frame d (Value e v) (d a)
 value_has tables frame scope k n a c d v e b s o h l at =
     (scope, operands_still tables scope n c d v b s o, left_of (fits_expression tables scope e) (same_kind (kind_of e) k) h, l, at ∙ sym (value_class_still n c d v e s b))
@@ -60,7 +61,7 @@ emitted_pure : (tables : Tables) (scope : Scope) (o : Option Kind) (c : ℕ → 
 emitted_pure tables scope o c v None h p = refl
 emitted_pure tables scope o c v (Some e) h p = absurd (true≢false (sym h ∙ ap (λ z. is_emission tables scope z (Some e)) p))
 
-emitted_has : (tables : Tables) (frame : List Kind) (scope : Scope) (o : Option Kind) (n a : ℕ) (c d : ℕ → Class) (v : Wires) (e : Option Expression) → WiresBelow n v → SameBelow n c d → OperandsFit tables scope c v → is_emission tables scope o e ≡ true → given_literal_divisors e ≡ true
+emitted_has : (tables : Tables) (frame : List Kind) (scope : Scope) (o : Option Kind) (n a : ℕ) (c d : ℕ → Class) (v : Wires) (e : Option Expression) → WiresBelow n v → SameBelow n c d → OperandsFit tables scope c v → is_emission tables scope o e ≡ true → given_divisors e ≡ true
     → d a ≡ emitted_class c v e → HasKind tables frame d (emitted_value e v) (d a)
 emitted_has tables frame scope o n a c d v None b s f h l at = at
 emitted_has tables frame scope None n a c d v (Some e) b s f h l at = absurd (true≢false (sym h))
@@ -142,7 +143,7 @@ pause_kinded tables frame scope c x given =
       };
     }
 
-emit_kinded : (tables : Tables) (frame : List Kind) (scope : Scope) (i : ℕ) (e : Option Expression) (c : ℕ → Class) (x : Context) → can_emit tables scope i ≡ true → is_emission tables scope (signal_at tables i).kind e ≡ true → given_literal_divisors e ≡ true → Given tables frame scope c (Emit i e) x
+emit_kinded : (tables : Tables) (frame : List Kind) (scope : Scope) (i : ℕ) (e : Option Expression) (c : ℕ → Class) (x : Context) → can_emit tables scope i ≡ true → is_emission tables scope (signal_at tables i).kind e ≡ true → given_divisors e ≡ true → Given tables frame scope c (Emit i e) x
     → Kinded tables frame scope.domain x.register (x.register + 0) x.next (Of kind.Int) c (start tables (Emit i e) x)
 emit_kinded tables frame scope i e c x may h l given =
     let o = given.outside in
@@ -184,7 +185,7 @@ put_variable : (tables : Tables) (v : ℕ → ℕ) (y n z : ℕ) (t : Bool) (d :
 put_variable tables v y n z true d e at h = at ∙ ap (λ i. Of (variable_at tables i).kind) (sym (eqb-true z y e))
 put_variable tables v y n z false d e at h = h
 
-assign_kinded : (tables : Tables) (frame : List Kind) (scope : Scope) (y : ℕ) (e : Expression) (c : ℕ → Class) (x : Context) → fits_statement tables scope (Assign y e) ≡ true → has_literal_divisors e ≡ true → Given tables frame scope c (Assign y e) x
+assign_kinded : (tables : Tables) (frame : List Kind) (scope : Scope) (y : ℕ) (e : Expression) (c : ℕ → Class) (x : Context) → fits_statement tables scope (Assign y e) ≡ true → has_divisors e ≡ true → Given tables frame scope c (Assign y e) x
     → Kinded tables frame scope.domain x.register (x.register + 0) x.next (Of kind.Int) c (start tables (Assign y e) x)
 assign_kinded tables frame scope y e c x h l given =
     let o = given.outside in
@@ -229,7 +230,7 @@ one_or_other k d false ss ts h i = i refl
 pub is_same : (a b : ℕ) → (a == b) ≡ true → a ≡ b
 is_same a b e = eqb-true a b e
 
-send_kinded : (tables : Tables) (frame : List Kind) (scope : Scope) (ch : ℕ) (e : Expression) (c : ℕ → Class) (x : Context) → fits_statement tables scope (Send ch e) ≡ true → has_literal_divisors e ≡ true → Given tables frame scope c (Send ch e) x
+send_kinded : (tables : Tables) (frame : List Kind) (scope : Scope) (ch : ℕ) (e : Expression) (c : ℕ → Class) (x : Context) → fits_statement tables scope (Send ch e) ≡ true → has_divisors e ≡ true → Given tables frame scope c (Send ch e) x
     → Kinded tables frame scope.domain x.register (x.register + 3) x.next (Of kind.Int) c (start tables (Send ch e) x)
 send_kinded tables frame scope ch e c x h l given =
     let o = given.outside in
@@ -582,7 +583,7 @@ trapped_kinded tables frame scope p c x ip given =
     trap_kinded tables frame scope.domain x.register (x.register + registers tables p) (Of kind.Int) c x (start tables p (part_context x.go 1 x)) refl
     (ip c1 (part_context x.go 1 x) (record { outside = gp.outside; fits = trap_fits tables scope c1 (part_context x.go 1 x) gp.fits; registers = gp.registers }))
 
-pub start_kinded : (tables : Tables) (frame : List Kind) (scope : Scope) (p : Stmt) → EachCombines tables → fits_statement tables scope p ≡ true → divides_by_literals p ≡ true → Part tables frame scope p
+pub start_kinded : (tables : Tables) (frame : List Kind) (scope : Scope) (p : Stmt) → EachCombines tables → fits_statement tables scope p ≡ true → divisors_are_allowed p ≡ true → Part tables frame scope p
 start_kinded tables frame scope Nothing each h l c x given = plain_kinded tables frame scope x.register (x.register + 0) 0 c x (small 1 refl) given.outside given.fits
 start_kinded tables frame scope Pause each h l c x given = pause_kinded tables frame scope c x given
 start_kinded tables frame scope (Emit s e) each h l c x given = emit_kinded tables frame scope s e c x (left_of (can_emit tables scope s) (is_emission tables scope (signal_at tables s).kind e) h) (right_of (can_emit tables scope s) (is_emission tables scope (signal_at tables s).kind e) h) l given
@@ -595,9 +596,9 @@ start_kinded tables frame scope (If e p q) each h l c x given =
     let rest = right_of (is_given tables scope kind.Boolean e) (fits_statement tables scope p && fits_statement tables scope q) h in
     let hp = left_of (fits_statement tables scope p) (fits_statement tables scope q) rest in
     let hq = right_of (fits_statement tables scope p) (fits_statement tables scope q) rest in
-    let le = left_of (has_literal_divisors e) (divides_by_literals p && divides_by_literals q) l in
-    let ls = right_of (has_literal_divisors e) (divides_by_literals p && divides_by_literals q) l in
-    choice_kinded tables frame scope p q (Value e x.wires) (value_class c x.wires e) c x hp hq (start_kinded tables frame scope p each hp (left_of (divides_by_literals p) (divides_by_literals q) ls)) (start_kinded tables frame scope q each hq (right_of (divides_by_literals p) (divides_by_literals q) ls)) o g given.registers
+    let le = left_of (has_divisors e) (divisors_are_allowed p && divisors_are_allowed q) l in
+    let ls = right_of (has_divisors e) (divisors_are_allowed p && divisors_are_allowed q) l in
+    choice_kinded tables frame scope p q (Value e x.wires) (value_class c x.wires e) c x hp hq (start_kinded tables frame scope p each hp (left_of (divisors_are_allowed p) (divisors_are_allowed q) ls)) (start_kinded tables frame scope q each hq (right_of (divisors_are_allowed p) (divisors_are_allowed q) ls)) o g given.registers
     (λ d s at. value_has tables frame scope kind.Boolean n (n + 2) c d x.wires e o.wires s g.operands is le at) (given_fits tables scope kind.Boolean c x.wires e g.operands is) (λ m le. wires_more n m x.wires le o.wires)
 start_kinded tables frame scope (Present t p q) each h l c x given =
     let o = given.outside in
@@ -607,17 +608,17 @@ start_kinded tables frame scope (Present t p q) each h l c x given =
     let rest = right_of (fits_test tables scope t) (fits_statement tables scope p && fits_statement tables scope q) h in
     let hp = left_of (fits_statement tables scope p) (fits_statement tables scope q) rest in
     let hq = right_of (fits_statement tables scope p) (fits_statement tables scope q) rest in
-    choice_kinded tables frame scope p q (Holds t x.wires) (Of kind.Boolean) c x hp hq (start_kinded tables frame scope p each hp (left_of (divides_by_literals p) (divides_by_literals q) l)) (start_kinded tables frame scope q each hq (right_of (divides_by_literals p) (divides_by_literals q) l)) o g given.registers
+    choice_kinded tables frame scope p q (Holds t x.wires) (Of kind.Boolean) c x hp hq (start_kinded tables frame scope p each hp (left_of (divisors_are_allowed p) (divisors_are_allowed q) l)) (start_kinded tables frame scope q each hq (right_of (divisors_are_allowed p) (divisors_are_allowed q) l)) o g given.registers
     (λ d s at. (scope, operands_still tables scope n c d x.wires o.wires s g.operands, ft, at)) refl (λ m le. wires_more n m x.wires le o.wires)
 start_kinded tables frame scope (Seq p q) each h l c x given =
     seq_kinded tables frame scope p q c x
-    (start_kinded tables frame scope p each (left_of (fits_statement tables scope p) (fits_statement tables scope q) h) (left_of (divides_by_literals p) (divides_by_literals q) l))
-    (start_kinded tables frame scope q each (right_of (fits_statement tables scope p) (fits_statement tables scope q) h) (right_of (divides_by_literals p) (divides_by_literals q) l)) given
+    (start_kinded tables frame scope p each (left_of (fits_statement tables scope p) (fits_statement tables scope q) h) (left_of (divisors_are_allowed p) (divisors_are_allowed q) l))
+    (start_kinded tables frame scope q each (right_of (fits_statement tables scope p) (fits_statement tables scope q) h) (right_of (divisors_are_allowed p) (divisors_are_allowed q) l)) given
 start_kinded tables frame scope (Loop p) each h l c x given = start_kinded tables frame scope p each h l c x (record { outside = given.outside; fits = given.fits; registers = given.registers })
 start_kinded tables frame scope (Par p q) each h l c x given =
     par_kinded tables frame scope p q c x
-    (start_kinded tables frame scope p each (left_of (fits_statement tables scope p) (fits_statement tables scope q) h) (left_of (divides_by_literals p) (divides_by_literals q) l))
-    (start_kinded tables frame scope q each (right_of (fits_statement tables scope p) (fits_statement tables scope q) h) (right_of (divides_by_literals p) (divides_by_literals q) l)) given
+    (start_kinded tables frame scope p each (left_of (fits_statement tables scope p) (fits_statement tables scope q) h) (left_of (divisors_are_allowed p) (divisors_are_allowed q) l))
+    (start_kinded tables frame scope q each (right_of (fits_statement tables scope p) (fits_statement tables scope q) h) (right_of (divisors_are_allowed p) (divisors_are_allowed q) l)) given
 start_kinded tables frame scope (Trap p) each h l c x given =
     trapped_kinded tables frame scope p c x (start_kinded tables frame (record scope { traps = suc scope.traps }) p each h l) (record { outside = given.outside; fits = given.fits; registers = given.registers })
 start_kinded tables frame scope (Exit d) each h l c x given = plain_kinded tables frame scope x.register (x.register + 0) (suc (suc d)) c x (small_exit d scope.traps h) given.outside given.fits
@@ -655,7 +656,7 @@ kinded_copy tables frame domain p r n y c a fy h =
       sets = f.sets;
     }
 
-pub starting_kinded : (tables : Tables) (frame : List Kind) (scope : Scope) (p : Stmt) (c : ℕ → Class) (x : Context) → EachCombines tables → fits_statement tables scope p ≡ true → divides_by_literals p ≡ true → Outside x → ContextFits tables scope c x → HasRegisters frame x.register (statement_registers tables p)
+pub starting_kinded : (tables : Tables) (frame : List Kind) (scope : Scope) (p : Stmt) (c : ℕ → Class) (x : Context) → EachCombines tables → fits_statement tables scope p ≡ true → divisors_are_allowed p ≡ true → Outside x → ContextFits tables scope c x → HasRegisters frame x.register (statement_registers tables p)
     → IsKindedCopy tables frame scope.domain p x.register x.next c (start tables p x)
 starting_kinded tables frame scope p c x each h l o g regs =
     kinded_copy tables frame scope.domain p x.register x.next (Of kind.Int) c (start tables p x) refl (start_kinded tables frame scope p each h l c x (record { outside = o; fits = g; registers = regs }))

@@ -1,11 +1,11 @@
 -- Copies of small statements, as whole lists of equations.
-use Rattle.std.specs.Prelude.{ℕ, pos, Bool, true, List, [], ◌∷◌, None}
+use Rattle.std.specs.Prelude.{ℕ, pos, negsuc, Bool, true, List, [], ◌∷◌, None}
 use Rattle.java_values.specs.declared.kind.Kind.TheVariants.{Int}
-use Rattle.java_values.specs.declared.op.Op1.TheVariants.{Plus}
-use Rattle.java_values.specs.declared.op.Op2.TheVariants.{Less, Equal, Sub}
+use Rattle.java_values.specs.declared.op.Op1.TheVariants.{Plus, Minus}
+use Rattle.java_values.specs.declared.op.Op2.TheVariants.{Less, Equal, Sub, Add, Div}
 use Rattle.kernel_terms.specs.Statements.{Stmt, Pause, Emit, Seq, Trap, Exit, Abort}
 use Rattle.surf_graph.specs.definitions.Formulas.{Formula, Const, And, Or, Status, IsStatus, Greater, Equation}
-use Rattle.kernel_terms.specs.Expressions.{IsPresent}
+use Rattle.kernel_terms.specs.Expressions.{Expression, Literal, Variable, Unary, Binary, IsPresent}
 use Rattle.surf_graph.specs.definitions.Copies.{Context, Emits, Sets}
 use Rattle.surf_graph.specs.definitions.SpelledOut.{gives}
 use Rattle.wire_code.specs.declared.formula.Formula.TheVariants as wire
@@ -81,6 +81,25 @@ scattered_pause_operations =
 abbrev pub incomplete_pause_operations : List WireEquation
 incomplete_pause_operations =
     gives 9 (wire.And 1 3) ∷ gives 8 (wire.Choose 1 51 0) ∷ gives 50 (wire.Const (pos 2)) ∷ []
+
+abbrev pub minus_two : Expression
+minus_two = Unary Int Minus (Literal Int (pos 2))
+
+abbrev pub quotient : Expression
+quotient = Binary Int Div (Variable Int 0) minus_two
+
+-- wire 4 is the variable
+abbrev pub quotient_operations : List WireEquation
+quotient_operations =
+    gives 8 (wire.Const (negsuc 1)) ∷ gives 9 (wire.Apply2 Div Int Int 4 8) ∷ []
+
+abbrev pub sum : Expression
+sum = Binary Int Add (Variable Int 0) minus_two
+
+abbrev pub sum_operations : List WireEquation
+sum_operations =
+    gives 8 (wire.Const (pos 2)) ∷ gives 9 (wire.Apply1 Minus Int 8)
+    ∷ gives 10 (wire.Apply2 Add Int Int 4 9) ∷ []
 
 -- wires 8, 11 and 13 are the statuses of the whole and of both parts; wire 10 tells that the first has ended
 abbrev pub emission_then_pause_operations : List WireEquation

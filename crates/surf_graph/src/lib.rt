@@ -27,7 +27,7 @@ pub use laws::{
     starting_ticks_are_told_by_operations,
 };
 pub use rows::{
-    scattered_operations, starting_domain, starting_emission, starting_operations,
+    constant_divisors, scattered_operations, starting_domain, starting_emission, starting_operations,
     starting_parallel, starting_pause, starting_sequence,
 };
 pub use spelling::{

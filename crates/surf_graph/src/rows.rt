@@ -17,6 +17,8 @@ ghost use Rattle.surf_graph.specs.SmallCopies.{weak_abort_operations, strong_abo
 ghost use Rattle.surf_graph.specs.SmallDomains.{small_tables, small_statement, small_copy, small_domain_equations};
 ghost use Rattle.surf_graph.specs.SmallCopies.{pause_equations, scattered_pause_operations};
 ghost use Rattle.surf_graph.specs.SmallCopies.{incomplete_pause_operations};
+ghost use Rattle.surf_graph.specs.SmallCopies.{quotient, quotient_operations, sum, sum_operations};
+ghost use Rattle.surf_graph.specs.definitions.SpelledOut.{value_wires};
 ghost use Rattle.surf_graph.specs.definitions.Spells.{Spells};
 
 /// A pause that starts has the code 1, and its register is set where it is kept.
@@ -85,4 +87,10 @@ pub fn scattered_operations()
     ensures pause { Spells pause_equations scattered_pause_operations }
     ensures one_missing { Spells pause_equations incomplete_pause_operations → ⊥ }
     ensures other_go { Spells (is 8 (Status 2 1) ∷ []) scattered_pause_operations → ⊥ }
+{}
+
+/// A divisor behind a minus is one constant, and another operand behind it is two operations.
+pub fn constant_divisors()
+    ensures divisor { (value_wires given.wires 8 quotient).equations ≡ quotient_operations }
+    ensures operand { (value_wires given.wires 8 sum).equations ≡ sum_operations }
 {}

@@ -38,6 +38,17 @@ fn difference(alloc: Global) -> Result<Expr, NoMemory> {
     })
 }
 
+// `v % -2`, where v is `short`
+fn remainder(alloc: Global) -> Result<Expr, NoMemory> {
+    let v = node(alloc, Kind::Short, ExprForm::Variable(1))?;
+    let two = node(alloc, Kind::Int, ExprForm::Literal(2))?;
+    let minus = node(alloc, Kind::Int, ExprForm::Unary(Op1::Minus, two))?;
+    Ok(Expr {
+        kind: Kind::Int,
+        form: ExprForm::Binary(Op2::Rem, v, minus),
+    })
+}
+
 fn is_at(builder: &Builder, at: usize, wire: u32, formula: Formula) -> bool {
     match builder.equations.get(at) {
         Some(equation) => *equation == Equation { wire, formula },
@@ -84,6 +95,20 @@ fn operands_come_before_their_operator(rt: HostRuntime) -> Result<(), Fail> {
 }
 
 // `!s || s`, and a signal past the table
+#[test]
+fn a_divisor_is_one_constant(rt: HostRuntime) -> Result<(), Fail> {
+    let tables = tables(rt.alloc())?;
+    let e = remainder(rt.alloc())?;
+    let mut builder = Builder::new(rt.alloc(), 50);
+    let n = FIRST_FURTHER;
+    assert_eq!(rt; value(&mut builder, &tables, &e)?, n + 1);
+    assert_eq!(rt; builder.equations.len(), 2);
+    assert!(rt; is_at(&builder, 0, n, Formula::Const(-2)));
+    let rem = Formula::Apply2(Op2::Rem, Kind::Short, Kind::Int, 11, n);
+    assert!(rt; is_at(&builder, 1, n + 1, rem));
+    Ok(())
+}
+
 #[test]
 fn tests_read_presence(rt: HostRuntime) -> Result<(), Fail> {
     let tables = tables(rt.alloc())?;

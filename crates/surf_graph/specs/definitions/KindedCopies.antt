@@ -3,43 +3,14 @@ use Rattle.std.specs.Prelude.{◌≡◌, ℕ, ◌+◌, ◌<◌, ◌≤◌, pos, 
 use Rattle.java_values.specs.declared.kind.Kind.{Kind}
 use Rattle.java_values.specs.declared.kind.Kind.TheVariants.{Boolean, Int}
 use Rattle.kernel_terms.specs.declared.tables.Tables.{Tables}
-use Rattle.kernel_terms.specs.Expressions.{Expression}
-use Rattle.kernel_terms.specs.Statements.{Stmt, Nothing, Pause, Emit, Assign, If, Present, Seq, Loop, Par, Trap, Exit, Abort, Suspend, Local, Send, Receive, SendWaits, Sent, ReceiveWaits, Received}
+use Rattle.kernel_terms.specs.Statements.{Stmt}
 use Rattle.kernel_terms.specs.TableEntries.{signal_at, variable_at, value_kind, is_input}
 use Rattle.kernel_terms.specs.WellFormed.{Scope, combines, is_variable_of}
 use Rattle.kernel_rules.specs.definitions.Registers.{registers}
 use Rattle.tick_code.specs.WellKinded.{Class, Of, Constant, Fits}
 use Rattle.surf_graph.specs.definitions.Copies.{Context, Copy, Emits, Sets}
-use Rattle.surf_graph.specs.definitions.KindedWires.{SameBelow, OperandsFit, has_literal_divisors}
+use Rattle.surf_graph.specs.definitions.KindedWires.{SameBelow, OperandsFit}
 use Rattle.surf_graph.specs.definitions.KindedFormulas.{HaveKinds}
-
-abbrev pub given_literal_divisors : Option Expression → Bool
-given_literal_divisors None = true
-given_literal_divisors (Some e) = has_literal_divisors e
-
--- each divisor in the statement is a literal other than 0
-abbrev pub divides_by_literals : Stmt → Bool
-divides_by_literals Nothing = true
-divides_by_literals Pause = true
-divides_by_literals (Emit s e) = given_literal_divisors e
-divides_by_literals (Assign x e) = has_literal_divisors e
-divides_by_literals (If e p q) =
-    has_literal_divisors e && (divides_by_literals p && divides_by_literals q)
-divides_by_literals (Present t p q) = divides_by_literals p && divides_by_literals q
-divides_by_literals (Seq p q) = divides_by_literals p && divides_by_literals q
-divides_by_literals (Loop p) = divides_by_literals p
-divides_by_literals (Par p q) = divides_by_literals p && divides_by_literals q
-divides_by_literals (Trap p) = divides_by_literals p
-divides_by_literals (Exit d) = true
-divides_by_literals (Abort weak armed t p) = divides_by_literals p
-divides_by_literals (Suspend armed t p) = divides_by_literals p
-divides_by_literals (Local s v p) = divides_by_literals p
-divides_by_literals (Send c e) = has_literal_divisors e
-divides_by_literals (Receive c) = true
-divides_by_literals (SendWaits c v) = true
-divides_by_literals (Sent c) = true
-divides_by_literals (ReceiveWaits c) = true
-divides_by_literals (Received c) = true
 
 -- each signal's combination fits its kind
 pub record EachCombines (tables : Tables) : Type 0 where

@@ -7,12 +7,13 @@ use Rattle.kernel_terms.specs.declared.tables.Combine.{Combine}
 use Rattle.kernel_terms.specs.declared.tables.Combine.TheVariants as combine
 use Rattle.kernel_terms.specs.declared.tables.Tables.{Tables}
 use Rattle.kernel_terms.specs.TableEntries.{value_kind}
+use Rattle.kernel_terms.specs.Divisors.{has_divisors}
 use Rattle.kernel_terms.specs.WellFormed.{Scope, combines, fits_expression, fits_test}
 use Rattle.wire_code.specs.declared.equation.Equation.{Equation as WireEquation}
 use Rattle.tick_code.specs.WellKinded.{Class, Of, Constant, Fits, IsEither, HasClass, HaveClasses}
 use Rattle.surf_graph.specs.definitions.Formulas.{Formula, Const, Get, Same, And, AndNot, Or, Choose, Zero, StatusOf, Status, IsStatus, Greater, OfTrap, OfWeakAbort, Value, Holds, Equation, status_of}
 use Rattle.surf_graph.specs.definitions.Formulas as formula
-use Rattle.surf_graph.specs.definitions.KindedWires.{SameBelow, OperandsFit, has_literal_divisors, value_class}
+use Rattle.surf_graph.specs.definitions.KindedWires.{SameBelow, OperandsFit, value_class}
 use Rattle.surf_graph.specs.definitions.SpelledOut.{Spelled}
 
 -- a combination that is one of the two values
@@ -46,7 +47,7 @@ HasKind tables frame c (formula.Combine info some a b) x =
     (is_choice info.combine ≡ true → c a ≡ Of (value_kind info)) × (x ≡ Of (value_kind info))
 HasKind tables frame c (Value e v) x =
     (scope : Scope) × OperandsFit tables scope c v × (fits_expression tables scope e ≡ true) ×
-    (has_literal_divisors e ≡ true) × (x ≡ value_class c v e)
+    (has_divisors e ≡ true) × (x ≡ value_class c v e)
 HasKind tables frame c (Holds t v) x =
     (scope : Scope) × OperandsFit tables scope c v × (fits_test tables scope t ≡ true) ×
     (x ≡ Of Boolean)

@@ -1,10 +1,7 @@
 -- Kinds of the wires of expressions and of tests.
-use Rattle.std.specs.Prelude.{◌≡◌, ℕ, ◌<◌, Bool, true, false, not, ◌&&◌, ◌||◌, List, Some}
+use Rattle.std.specs.Prelude.{◌≡◌, ℕ, ◌<◌, true, List, Some}
 use Rattle.java_values.specs.declared.kind.Kind.{Kind}
 use Rattle.java_values.specs.declared.kind.Kind.TheVariants.{Boolean}
-use Rattle.java_values.specs.declared.op.Op2.{Op2}
-use Rattle.java_values.specs.declared.op.Op2.TheVariants as op
-use Rattle.kernel_terms.specs.Divisors.{is_nonzero}
 use Rattle.kernel_terms.specs.declared.tables.Tables.{Tables}
 use Rattle.kernel_terms.specs.TableEntries.{signal_at, channel_at, variable_at}
 use Rattle.kernel_terms.specs.WellFormed.{Scope, can_use, is_variable_of, is_receiver_of}
@@ -32,27 +29,6 @@ pub record OperandsFit (tables : Tables) (scope : Scope) (c : ℕ → Class) (v 
 -- each equation that the first list has is one of the second
 abbrev pub Among : List Equation → List Equation → Type 0
 Among es all = (w : ℕ) (f : Operation) → Gives es w f → Gives all w f
-
--- operators that have a divisor
-abbrev pub divides : Op2 → Bool
-divides op.Div = true
-divides op.Rem = true
-divides _ = false
-
-abbrev pub is_literal_divisor : Expression → Bool
-is_literal_divisor (Literal k n) = is_nonzero n
-is_literal_divisor _ = false
-
--- each divisor in the expression is a literal other than 0
-abbrev pub has_literal_divisors : Expression → Bool
-has_literal_divisors (Literal k n) = true
-has_literal_divisors (Variable k x) = true
-has_literal_divisors (SignalValue k s) = true
-has_literal_divisors (ChannelValue k c) = true
-has_literal_divisors (Unary k o e) = has_literal_divisors e
-has_literal_divisors (Binary k o e f) =
-    has_literal_divisors e && (has_literal_divisors f && (not (divides o) || is_literal_divisor f))
-has_literal_divisors (Cast k e) = has_literal_divisors e
 
 -- the class of the wire of an expression
 abbrev pub value_class : (ℕ → Class) → Wires → Expression → Class

@@ -1,12 +1,14 @@
 -- Equations spelled out: each whole expression, each whole test and each formula that stands for several operations
 -- becomes equations of single operations.
-use Rattle.std.specs.Prelude.{ℕ, ◌+◌, pos, List, [], ◌∷◌, ◌++◌, Option, Some, None}
+use Rattle.std.specs.Prelude.{ℕ, ◌+◌, ℤ, pos, Bool, ◌&&◌, cond, int_le, List, [], ◌∷◌, ◌++◌, Option, Some, None}
 use Rattle.java_values.specs.declared.kind.Kind.{Kind}
 use Rattle.java_values.specs.declared.kind.Kind.TheVariants.{Int}
+use Rattle.java_values.specs.Arithmetic.{applied1}
+use Rattle.java_values.specs.declared.op.Op1.{Op1}
 use Rattle.java_values.specs.declared.op.Op1.TheVariants as op1
 use Rattle.java_values.specs.declared.op.Op2.{Op2}
 use Rattle.java_values.specs.declared.op.Op2.TheVariants as op
-use Rattle.java_values.specs.Kinds.{result_kind2}
+use Rattle.java_values.specs.Kinds.{lowest, highest, result_kind1, result_kind2}
 use Rattle.kernel_terms.specs.Limits.{most_traps}
 use Rattle.kernel_terms.specs.declared.tables.Combine.{Combine}
 use Rattle.kernel_terms.specs.declared.tables.Combine.TheVariants as combine
@@ -37,7 +39,39 @@ abbrev pub computed_by : List WireEquation → ℕ → Operation → Computing
 computed_by es n operation =
     record { equations = es ++ (gives n operation ∷ []); wire = n; next = n + 1 }
 
--- the value of an expression that reads these wires, by wires from n on
+-- the number is one of the kind
+abbrev pub is_of : Kind → ℤ → Bool
+is_of k n = int_le (lowest k) n && int_le n (highest k)
+
+-- a number, where there is a kind
+abbrev pub where_given : Option Kind → ℤ → Option ℤ
+where_given None n = None
+where_given (Some k) n = Some n
+
+-- the value of an operator on a literal, where it takes it
+abbrev pub on_literal : Op1 → Expression → Option ℤ
+on_literal o (Literal k n) =
+    cond (is_of k n) (where_given (result_kind1 o k) (applied1 o k n)) None
+on_literal o _ = None
+
+-- the value of a literal, or of an operator on one
+abbrev pub constant_of : Expression → Option ℤ
+constant_of (Literal k n) = Some n
+constant_of (Unary k o e) = on_literal o e
+constant_of _ = None
+
+-- the constant that an operator divides by
+abbrev pub divisor_of : Op2 → Expression → Option ℤ
+divisor_of op.Div g = constant_of g
+divisor_of op.Rem g = constant_of g
+divisor_of _ g = None
+
+-- a constant on the next free wire, n, or else this computation
+abbrev pub folded_to : Option ℤ → ℕ → Computing → Computing
+folded_to None n c = c
+folded_to (Some m) n c = computed_by [] n (wire.Const m)
+
+-- the value of an expression that reads these wires, by wires from n on; a divisor is one constant
 abbrev pub value_wires : Wires → ℕ → Expression → Computing
 value_wires v n (Literal k m) = computed_by [] n (wire.Const m)
 value_wires v n (Variable k x) = at_wire (v.variables x) n
@@ -48,7 +82,7 @@ value_wires v n (Unary k o e) =
     computed_by a.equations a.next (wire.Apply1 o (kind_of e) a.wire)
 value_wires v n (Binary k o e g) =
     let a = value_wires v n e in
-    let b = value_wires v a.next g in
+    let b = folded_to (divisor_of o g) a.next (value_wires v a.next g) in
     computed_by (a.equations ++ b.equations) b.next
     (wire.Apply2 o (kind_of e) (kind_of g) a.wire b.wire)
 value_wires v n (Cast k e) =
