@@ -1,5 +1,5 @@
 -- What the wires of ends tell.
-use Rattle.std.proofs.Common.{◌≡◌, ℕ, suc, ◌+◌, ◌==◌, ℤ, pos, Bool, true, false, not, ◌&&◌, cond, List, [], ◌∷◌, ◌++◌, length, Option, Some, None, refl, sym, ap, ◌∙◌, subst}
+use Rattle.std.proofs.Common.{◌≡◌, ℕ, suc, ◌+◌, ◌==◌, ℤ, Bool, true, false, ◌&&◌, cond, List, [], ◌∷◌, ◌++◌, length, Some, refl, sym, ap, ◌∙◌}
 use Rattle.std.specs.Option.{is_some}
 use Rattle.std.proofs.lemmas.Bool.{true≢false}
 use Rattle.java_values.specs.Arithmetic.{is_true, of_bool}
@@ -65,8 +65,7 @@ pub each_wait : (f w : ℕ → ℤ) (next : ℕ → ℕ) (ps : List EndPlace) (n
 each_wait f w next ps n [] k m h g = tt
 each_wait f w next ps n (c ∷ cs) k m h g =
     let sets = set_equations Boolean m (waits_of ps k n) in
-    let others = wait_equations ps n cs (suc k) (suc m + length (waits_of ps k n)) in
-    (
+    let others = wait_equations ps n cs (suc k) (suc m + length (waits_of ps k n)) in (
       ap is_true (set_told f w Boolean m (waits_of ps k n) (satisfies_front f w sets others g)) ∙ waits_told f w next ps k n h,
       each_wait f w next ps n cs (suc k) (suc m + length (waits_of ps k n)) h (satisfies_back f w sets others g),
     )
@@ -77,8 +76,7 @@ each_send tables f w next ps n [] m h g = tt
 each_send tables f w next ps n (e ∷ es) m h g =
     let kind = (channel_at tables e.channel).kind in
     let sets = set_equations kind m (sends_of ps next e.number n) in
-    let others = send_equations tables ps next n es (suc m + length (sends_of ps next e.number n)) in
-    (
+    let others = send_equations tables ps next n es (suc m + length (sends_of ps next e.number n)) in (
       λ q first. set_told f w kind m (sends_of ps next e.number n) (satisfies_front f w sets others g) ∙ sends_told f w next ps e.number n q h first,
       each_send tables f w next ps n es (suc m + length (sends_of ps next e.number n)) h (satisfies_back f w sets others g),
     )
