@@ -1,5 +1,5 @@
 -- The operations of a domain's equations are well-kinded, in whatever order the equations are spelled out.
-use Rattle.std.proofs.Common.{◌≡◌, ℕ, suc, ◌+◌, ◌<◌, ◌≤◌, ◌==◌, pos, Bool, true, false, ◌||◌, cond, List, [], ◌∷◌, ◌++◌, length, map, refl, sym, ap, ◌∙◌, subst, arith}
+use Rattle.std.proofs.Common.{◌≡◌, ℕ, suc, ◌+◌, ◌<◌, ◌≤◌, ◌==◌, true, ◌||◌, List, [], ◌∷◌, ◌++◌, length, map, refl, sym, ap, ◌∙◌, subst, arith}
 use Rattle.std.specs.List.{All}
 use Rattle.std.specs.List.Sorted.{IsPermutation}
 use Rattle.std.proofs.lemmas.Bool.{true≢false, or_right, eq-eqb, eqb-true}
@@ -10,7 +10,7 @@ use Rattle.java_values.specs.declared.kind.Kind.{Kind}
 use Rattle.java_values.specs.declared.kind.Kind.TheVariants as kind
 use Rattle.kernel_terms.specs.declared.tables.Tables.{Tables}
 use Rattle.kernel_terms.specs.Statements.{Stmt}
-use Rattle.kernel_terms.specs.TableEntries.{signal_at, channel_at, variable_at, value_kind, interface_of, variables_of, valued_of, received_by}
+use Rattle.kernel_terms.specs.TableEntries.{signal_at, value_kind, interface_of, variables_of, valued_of, received_by}
 use Rattle.kernel_rules.specs.definitions.Registers.{statement_registers, first_variable, first_last}
 use Rattle.tick_code.specs.BuiltKinds.{WiresFit}
 use Rattle.tick_code.specs.WellKinded.{Class, Fits}

@@ -1,7 +1,7 @@
 -- A domain's equations are well-kinded.
-use Rattle.std.proofs.Common.{◌≡◌, ℕ, zero, suc, ◌+◌, ◌<◌, ◌≤◌, nat_lt, ◌==◌, pos, Bool, true, false, ◌&&◌, ◌||◌, cond, List, [], ◌∷◌, ◌++◌, length, map, get_or, Option, Some, None, rules, refl, sym, ap, ◌∙◌, subst, arith}
+use Rattle.std.proofs.Common.{◌≡◌, ℕ, suc, ◌+◌, ◌<◌, ◌≤◌, nat_lt, ◌==◌, pos, Bool, true, false, ◌||◌, cond, List, [], ◌∷◌, ◌++◌, length, map, get_or, Option, rules, refl, sym, ap, ◌∙◌, subst, arith}
 use Rattle.std.specs.Prelude.{unwrap_or}
-use Rattle.std.proofs.lemmas.List.{length-append, length-map}
+use Rattle.std.proofs.lemmas.List.{length-map}
 use Rattle.std.proofs.lemmas.Bool.{true≢false, eqb-true}
 use Rattle.std.proofs.lemmas.Bool.Decides.{nat_tests}
 use Rattle.java_values.specs.declared.kind.Kind.{Kind}
@@ -12,31 +12,29 @@ use Rattle.kernel_terms.specs.declared.tables.ChannelInfo.{ChannelInfo}
 use Rattle.kernel_terms.specs.declared.tables.VariableInfo.{VariableInfo}
 use Rattle.kernel_terms.specs.Statements.{Stmt}
 use Rattle.kernel_terms.specs.TableEntries.{signal_at, channel_at, variable_at, value_kind, no_signal, no_channel, no_variable, is_input, is_interface_of, is_valued_of, interface_of, variables_of, valued_of, received_by, numbers_where}
-use Rattle.kernel_terms.specs.WellFormed.{Scope, can_use, is_variable_of, is_receiver_of, fits_statement}
-use Rattle.kernel_rules.specs.definitions.Registers.{statement_registers, registers, domain_registers, first_variable, first_value, first_last}
-use Rattle.tick_code.specs.BuiltKinds.{WiresFit}
-use Rattle.tick_code.specs.WellKinded.{Class, Of, Constant, Fits, HaveClasses, WellKinded}
-use Rattle.surf_graph.specs.definitions.Formulas.{Equation, Within}
-use Rattle.surf_graph.specs.definitions.Copies.{Context, Copy, Emits, has}
-use Rattle.surf_graph.specs.definitions.DomainCopies.{wire_for, places_read, all_statuses, register_equations, register_wires, first_channel_wire, first_presence_wire, first_value_wire, first_wire_before, first_copy_wire, domain_wires, domain_context, domain_of_copy}
+use Rattle.kernel_terms.specs.WellFormed.{Scope, is_variable_of, is_receiver_of, fits_statement}
+use Rattle.kernel_rules.specs.definitions.Registers.{statement_registers, first_variable, first_last}
+use Rattle.tick_code.specs.WellKinded.{Class, Of, Constant, Fits}
+use Rattle.surf_graph.specs.definitions.Formulas.{Equation}
+use Rattle.surf_graph.specs.definitions.Copies.{Copy, Emits, has}
+use Rattle.surf_graph.specs.definitions.DomainCopies.{places_read, all_statuses, register_equations, register_wires, first_channel_wire, first_presence_wire, first_value_wire, first_wire_before, first_copy_wire, domain_wires, domain_context, domain_of_copy}
 use Rattle.surf_graph.specs.definitions.StartingCopies.{start}
-use Rattle.surf_graph.specs.definitions.KindedWires.{SameBelow, OperandsFit}
-use Rattle.surf_graph.specs.definitions.KindedFormulas.{HaveKinds}
-use Rattle.surf_graph.specs.definitions.KindedCopies.{register_kind, EachCombines, HasRegisters, HaveVariables, ContextFits, EmissionsFit, SetsFit, IsKindedCopy, divides_by_literals}
-use Rattle.surf_graph.specs.definitions.KindedDomains.{domain_frame, DomainFits, IsKindedDomain}
+use Rattle.surf_graph.specs.definitions.KindedWires.{SameBelow}
+use Rattle.surf_graph.specs.definitions.KindedCopies.{register_kind, EachCombines, ContextFits, IsKindedCopy, divides_by_literals}
+use Rattle.surf_graph.specs.definitions.KindedDomains.{domain_frame, IsKindedDomain}
 use Rattle.surf_graph.proofs.Booleans.{left_of, right_of, both_true}
 use Rattle.surf_graph.proofs.DomainLists.{has_number, number_has}
 use Rattle.surf_graph.proofs.DomainRegisters.{variable_has}
 use Rattle.surf_graph.proofs.DomainStatuses.{interface_has}
-use Rattle.surf_graph.proofs.Frames.{Inside, EmitsBelow, emits_more, sets_more, within_more, within_append}
+use Rattle.surf_graph.proofs.Frames.{Inside, emits_more, sets_more}
 use Rattle.surf_graph.proofs.StartInside.{Outside, start_inside}
 use Rattle.surf_graph.proofs.KindedExpressions.{none_fits, same_twice}
 use Rattle.surf_graph.proofs.KindedOperations.{listed, listed_below, listed_first, fits_as, small}
-use Rattle.surf_graph.proofs.KindedEquations.{same_less, fits_still, kinds_still, kinds_both}
+use Rattle.surf_graph.proofs.KindedEquations.{fits_still, kinds_still, kinds_both}
 use Rattle.surf_graph.proofs.KindedParts.{truth, off_fits, variables_still, emissions_still, sets_still}
 use Rattle.surf_graph.proofs.KindedLocals.{emits_signal, last_class, last_fits}
 use Rattle.surf_graph.proofs.KindedStarts.{starting_kinded}
-use Rattle.surf_graph.proofs.KindedPlaces.{FrameParts, frame_parts, Places, places_first, places_further, places_still, class_for, for_below, places_kinded, places_inside, registers_inside, registers_kinded, wires_both, wires_mapped}
+use Rattle.surf_graph.proofs.KindedPlaces.{frame_parts, Places, places_first, places_further, places_still, class_for, for_below, places_kinded, registers_kinded, wires_both, wires_mapped}
 use Rattle.surf_graph.proofs.KindedStatuses.{presence_class, signal_class, before_class, statuses_inside, statuses_kinded}
 
 -- the wires that come before those of the copy

@@ -1,5 +1,5 @@
 -- Equations keep their kinds where the classes of their wires stay, and spelled out they have their classes.
-use Rattle.std.proofs.Common.{◌≡◌, ℕ, ◌+◌, ◌<◌, ◌≤◌, pos, List, [], ◌∷◌, ◌++◌, inr, refl, sym, ap, ◌∙◌, subst, arith}
+use Rattle.std.proofs.Common.{◌≡◌, ℕ, ◌+◌, ◌<◌, ◌≤◌, pos, List, [], ◌∷◌, ◌++◌, inr, refl, sym, ◌∙◌, subst, arith}
 use Rattle.java_values.specs.declared.kind.Kind.{Kind}
 use Rattle.java_values.specs.declared.kind.Kind.TheVariants as kind
 use Rattle.kernel_terms.specs.declared.tables.Tables.{Tables}
@@ -9,12 +9,12 @@ use Rattle.kernel_terms.specs.TableEntries.{value_kind}
 use Rattle.kernel_terms.specs.Expressions.{Expression, Literal, Variable, SignalValue, ChannelValue, Unary, Binary, Cast}
 use Rattle.wire_code.specs.declared.equation.Equation.{Equation as WireEquation}
 use Rattle.wire_code.specs.Formulas.{ReadsBelow}
-use Rattle.tick_code.specs.WellKinded.{Class, Constant, Fits, IsEither, HasClass, HaveClasses}
+use Rattle.tick_code.specs.WellKinded.{Class, Constant, Fits, IsEither, HasClass}
 use Rattle.surf_graph.specs.definitions.Formulas.{Wires, WiresBelow, Formula, Const, Get, Same, And, AndNot, Or, Choose, Zero, StatusOf, Status, IsStatus, Greater, OfTrap, OfWeakAbort, Value, Holds, Equation, Reads, Within}
 use Rattle.surf_graph.specs.definitions.Formulas as formula
 use Rattle.surf_graph.specs.definitions.KindedWires.{SameBelow, Among, value_class}
 use Rattle.surf_graph.specs.definitions.KindedFormulas.{HasKind, HaveKinds, AreKinded}
-use Rattle.surf_graph.specs.definitions.SpelledOut.{gives, combined_wires, value_wires, test_wires, spelled, spelled_out}
+use Rattle.surf_graph.specs.definitions.SpelledOut.{gives, combined_wires, spelled, spelled_out}
 use Rattle.surf_graph.proofs.Frames.{reads_more}
 use Rattle.surf_graph.proofs.FurtherWires.{value_computes, test_computes, spelled_runs}
 use Rattle.surf_graph.proofs.KindedExpressions.{same_twice, has_still, still_classed, classed_both, operands_still, among_front, among_back}

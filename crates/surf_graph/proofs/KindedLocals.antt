@@ -1,5 +1,5 @@
 -- Kinds of the wires of local signals, and of the combinations of their emissions.
-use Rattle.std.proofs.Common.{◌≡◌, ℕ, zero, suc, get_or, ◌+◌, ◌<◌, ◌≤◌, nat_lt, ◌==◌, pos, Bool, true, false, ◌||◌, cond, List, [], ◌∷◌, ◌++◌, length, Option, Some, None, refl, sym, ap, ◌∙◌, subst, arith}
+use Rattle.std.proofs.Common.{◌≡◌, ℕ, zero, suc, get_or, ◌+◌, ◌<◌, ◌≤◌, nat_lt, ◌==◌, pos, Bool, true, false, ◌||◌, cond, List, [], ◌∷◌, length, Option, Some, None, refl, sym, ap, ◌∙◌, subst, arith}
 use Rattle.std.proofs.lemmas.Bool.{true≢false, eqb-true, eqb-false, ne_eqb}
 use Rattle.std.specs.Prelude.{unwrap_or}
 use Rattle.std.specs.List.{list_all}
@@ -9,22 +9,21 @@ use Rattle.java_values.specs.declared.kind.Kind.TheVariants as kind
 use Rattle.kernel_terms.specs.declared.tables.Tables.{Tables}
 use Rattle.kernel_terms.specs.declared.tables.SignalInfo.{SignalInfo}
 use Rattle.kernel_terms.specs.declared.tables.Combine.TheVariants as combine
-use Rattle.kernel_terms.specs.TableEntries.{no_signal, signal_at, variable_at, value_kind, is_interface_of}
-use Rattle.kernel_terms.specs.WellFormed.{Scope, combines, has_entries, is_signal_entry, can_use, stands_in, is_variable_of}
-use Rattle.kernel_rules.specs.definitions.Registers.{statement_registers, value_kinds}
-use Rattle.kernel_rules.specs.definitions.Signals.{put_at}
+use Rattle.kernel_terms.specs.TableEntries.{no_signal, signal_at, value_kind, is_interface_of}
+use Rattle.kernel_terms.specs.WellFormed.{Scope, combines, has_entries, is_signal_entry, can_use, stands_in}
+use Rattle.kernel_rules.specs.definitions.Registers.{value_kinds}
 use Rattle.tick_code.specs.WellKinded.{Class, Of, Constant, Fits, IsEither}
-use Rattle.surf_graph.specs.definitions.Formulas.{Wires, Formula, Equation}
-use Rattle.surf_graph.specs.definitions.Copies.{Context, Copy, Emits, Sets, Folded, below, from, joined, fold_step, fold_emits, fold_info, combined_as, emits_without, own_registers, local_context, local_copy}
-use Rattle.surf_graph.specs.definitions.KindedWires.{SameBelow, OperandsFit}
+use Rattle.surf_graph.specs.definitions.Formulas.{Formula}
+use Rattle.surf_graph.specs.definitions.Copies.{Context, Copy, Emits, Folded, fold_step, fold_emits, fold_info, combined_as, emits_without, own_registers, local_context, local_copy}
+use Rattle.surf_graph.specs.definitions.KindedWires.{SameBelow}
 use Rattle.surf_graph.specs.definitions.KindedFormulas.{is_choice, HasKind, HaveKinds}
-use Rattle.surf_graph.specs.definitions.KindedCopies.{register_kind, EachCombines, HasRegisters, HaveVariables, ContextFits, EmissionFits, EmissionsFit, SetsFit}
+use Rattle.surf_graph.specs.definitions.KindedCopies.{register_kind, EachCombines, HasRegisters, ContextFits, EmissionsFit}
 use Rattle.surf_graph.proofs.Frames.{EmitsBelow, emits_more, Inside}
 use Rattle.surf_graph.proofs.StartInside.{Outside}
-use Rattle.surf_graph.proofs.KindedExpressions.{none_fits, same_twice, operands_still}
-use Rattle.surf_graph.proofs.KindedOperations.{listed, listed_below, listed_at, listed_first, fits_as, small}
-use Rattle.surf_graph.proofs.KindedEquations.{same_less, fits_still, kinds_both}
-use Rattle.surf_graph.proofs.KindedParts.{Fitted, Kinded, same_itself, variables_still, emissions_still, fitted_still, Own, own_listed, own_still, truth, whole, off_fits, at_register, sets_pair}
+use Rattle.surf_graph.proofs.KindedExpressions.{none_fits, operands_still}
+use Rattle.surf_graph.proofs.KindedOperations.{listed, listed_below, listed_at, fits_as, small}
+use Rattle.surf_graph.proofs.KindedEquations.{fits_still, kinds_both}
+use Rattle.surf_graph.proofs.KindedParts.{Kinded, same_itself, variables_still, emissions_still, fitted_still, Own, own_listed, own_still, truth, off_fits, at_register, sets_pair}
 
 -- combinations
 

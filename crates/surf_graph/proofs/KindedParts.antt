@@ -1,26 +1,25 @@
 -- Kinds of the wires of copies, by those of their parts.
-use Rattle.std.proofs.Common.{◌≡◌, ℕ, suc, ◌+◌, ◌<◌, ◌≤◌, nat_lt, ◌==◌, pos, Bool, true, false, ◌&&◌, ◌||◌, cond, List, [], ◌∷◌, ◌++◌, length, get_or, Option, Some, None, refl, sym, ap, ◌∙◌, subst, arith}
+use Rattle.std.proofs.Common.{◌≡◌, ℕ, suc, ◌+◌, ◌<◌, ◌≤◌, nat_lt, ◌==◌, pos, Bool, true, false, ◌||◌, cond, List, [], ◌∷◌, ◌++◌, length, get_or, refl, sym, ap, ◌∙◌, subst, arith}
 use Rattle.std.proofs.lemmas.List.{get_or_append_left, get_or-append-add, length-append}
-use Rattle.std.proofs.lemmas.Bool.{true≢false, eqb-true}
+use Rattle.std.proofs.lemmas.Bool.{eqb-true}
 use Rattle.std.proofs.lemmas.Bool.Decides.{nat_tests}
 use Rattle.java_values.specs.declared.kind.Kind.{Kind}
 use Rattle.java_values.specs.declared.kind.Kind.TheVariants as kind
 use Rattle.java_values.specs.Kinds.{IsInRange}
 use Rattle.kernel_terms.specs.declared.tables.Tables.{Tables}
 use Rattle.kernel_terms.specs.TableEntries.{signal_at, variable_at, value_kind}
-use Rattle.kernel_terms.specs.Expressions.{Expression, Test}
+use Rattle.kernel_terms.specs.Expressions.{Test}
 use Rattle.kernel_terms.specs.Statements.{Stmt}
 use Rattle.kernel_terms.specs.WellFormed.{Scope, fits_test, is_variable_of}
 use Rattle.kernel_rules.specs.definitions.TickRule.{writes}
 use Rattle.kernel_rules.specs.definitions.Registers.{registers}
 use Rattle.tick_code.specs.WellKinded.{Class, Of, Constant, Fits, IsEither}
-use Rattle.surf_graph.specs.definitions.Formulas.{Wires, WiresBelow, Choose, Equation, Within}
-use Rattle.surf_graph.specs.definitions.Copies.{Context, Copy, Emits, Sets, below, from, joined, has, both_write, joins, join_wires, wires_by, wires_of_both, nothing_built, behind, alternatives, beside, of_trap_copy, weak_copy, tested_copy, plain_copy, starting_if}
-use Rattle.surf_graph.specs.definitions.KindedWires.{SameBelow, OperandsFit}
+use Rattle.surf_graph.specs.definitions.Formulas.{WiresBelow, Equation, Within}
+use Rattle.surf_graph.specs.definitions.Copies.{Context, Copy, Emits, Sets, below, from, joined, has, both_write, joins, join_wires, wires_by, nothing_built, behind, alternatives, beside, of_trap_copy, weak_copy, tested_copy, plain_copy, starting_if}
+use Rattle.surf_graph.specs.definitions.KindedWires.{SameBelow}
 use Rattle.surf_graph.specs.definitions.KindedFormulas.{HaveKinds}
-use Rattle.surf_graph.specs.definitions.KindedCopies.{register_kind, HasRegisters, HaveVariables, ContextFits, EmissionFits, EmissionsFit, SetFits, SetsFit}
+use Rattle.surf_graph.specs.definitions.KindedCopies.{register_kind, HasRegisters, HaveVariables, ContextFits, EmissionsFit, SetsFit}
 use Rattle.surf_graph.proofs.Frames.{EmitsBelow, SetsBelow, Inside}
-use Rattle.surf_graph.proofs.Parts.{by_cases}
 use Rattle.surf_graph.proofs.StartInside.{Outside}
 use Rattle.surf_graph.proofs.KindedExpressions.{none_fits, same_twice, operands_still}
 use Rattle.surf_graph.proofs.KindedOperations.{listed, listed_below, listed_at, listed_first, fits_as, small}

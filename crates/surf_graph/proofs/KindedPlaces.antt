@@ -1,16 +1,16 @@
 -- Kinds of the places of a domain's frame, and classes of wires that come one after another.
-use Rattle.std.proofs.Common.{◌≡◌, ℕ, zero, suc, ◌+◌, ◌*◌, ◌<◌, ◌≤◌, ◌==◌, pos, Bool, true, false, ◌&&◌, ◌||◌, cond, List, [], ◌∷◌, ◌++◌, length, map, get_or, Option, Some, None, refl, sym, ap, ◌∙◌, subst, arith}
+use Rattle.std.proofs.Common.{◌≡◌, ℕ, suc, ◌+◌, ◌*◌, ◌<◌, ◌≤◌, ◌==◌, Bool, true, false, ◌&&◌, ◌||◌, cond, List, [], ◌∷◌, ◌++◌, length, map, get_or, refl, sym, ap, ◌∙◌, subst, arith}
 use Rattle.std.proofs.lemmas.List.{get_or_append_left, get_or-append-add, get_or-map, length-append, length-map}
 use Rattle.std.proofs.lemmas.Bool.{true≢false, eq-eqb, eqb-true}
 use Rattle.java_values.specs.declared.kind.Kind.{Kind}
 use Rattle.java_values.specs.declared.kind.Kind.TheVariants as kind
 use Rattle.kernel_terms.specs.declared.tables.Tables.{Tables}
 use Rattle.kernel_terms.specs.Statements.{Stmt}
-use Rattle.kernel_terms.specs.TableEntries.{signal_at, channel_at, variable_at, value_kind, no_signal, is_input, is_interface_of, variables_of, valued_of, received_by}
-use Rattle.kernel_rules.specs.definitions.Registers.{statement_registers, registers, domain_registers, first_variable, first_value, first_last}
+use Rattle.kernel_terms.specs.TableEntries.{signal_at, channel_at, variable_at, value_kind, no_signal, variables_of, valued_of, received_by}
+use Rattle.kernel_rules.specs.definitions.Registers.{statement_registers, domain_registers, first_variable, first_value, first_last}
 use Rattle.tick_code.specs.BuiltKinds.{WiresFit, input_kinds}
-use Rattle.tick_code.specs.WellKinded.{Class, Of, Constant, Fits, IsEither}
-use Rattle.surf_graph.specs.definitions.Formulas.{Equation, Within}
+use Rattle.tick_code.specs.WellKinded.{Class, Of, Fits, IsEither}
+use Rattle.surf_graph.specs.definitions.Formulas.{Within}
 use Rattle.surf_graph.specs.definitions.Copies.{Sets, has}
 use Rattle.surf_graph.specs.definitions.DomainCopies.{place_in, wire_for, places_read, is_input_of, inputs_of, input_place, set_equations, register_equations, register_wires}
 use Rattle.surf_graph.specs.definitions.KindedWires.{SameBelow}
@@ -18,10 +18,10 @@ use Rattle.surf_graph.specs.definitions.KindedFormulas.{HaveKinds}
 use Rattle.surf_graph.specs.definitions.KindedCopies.{register_kind, HasRegisters, SetsFit}
 use Rattle.surf_graph.specs.definitions.KindedDomains.{domain_frame}
 use Rattle.surf_graph.proofs.DomainLists.{has_number, within_table}
-use Rattle.surf_graph.proofs.Frames.{SetsBelow, sets_more, within_more, within_append}
+use Rattle.surf_graph.proofs.Frames.{SetsBelow, sets_more, within_append}
 use Rattle.surf_graph.proofs.KindedExpressions.{same_twice}
 use Rattle.surf_graph.proofs.KindedOperations.{listed, listed_below, listed_first, fits_as, either_other}
-use Rattle.surf_graph.proofs.KindedEquations.{same_less, fits_still, kinds_still, kinds_both}
+use Rattle.surf_graph.proofs.KindedEquations.{fits_still, kinds_still, kinds_both}
 use Rattle.surf_graph.proofs.KindedParts.{same_itself, sets_still, first_registers, further_registers, at_register}
 
 -- the parts of a domain's frame

@@ -1,5 +1,5 @@
 -- Starting copies are well-kinded.
-use Rattle.std.proofs.Common.{◌≡◌, ◌≢◌, ℕ, ℤ, suc, ◌+◌, ◌<◌, ◌≤◌, nat_lt, ◌==◌, pos, rules, Bool, true, false, ◌&&◌, ◌||◌, not, cond, List, [], ◌∷◌, ◌++◌, length, Option, Some, None, refl, sym, ap, ◌∙◌, subst, arith}
+use Rattle.std.proofs.Common.{◌≡◌, ◌≢◌, ℕ, ℤ, suc, ◌+◌, ◌<◌, ◌≤◌, nat_lt, ◌==◌, pos, Bool, true, false, ◌&&◌, ◌||◌, not, cond, List, [], ◌∷◌, ◌++◌, length, Option, Some, None, refl, sym, ap, ◌∙◌, subst, arith}
 use Rattle.std.specs.Prelude.{unwrap_or}
 use Rattle.std.proofs.lemmas.List.{length-append}
 use Rattle.std.proofs.lemmas.Bool.{true≢false, eqb-true, eqb-false}
@@ -9,28 +9,27 @@ use Rattle.java_values.specs.declared.kind.Kind.TheVariants as kind
 use Rattle.java_values.specs.Kinds.{IsInRange}
 use Rattle.kernel_terms.specs.declared.tables.Tables.{Tables}
 use Rattle.kernel_terms.specs.Limits.{most_traps}
-use Rattle.kernel_terms.specs.TableEntries.{signal_at, variable_at, channel_at, value_kind, is_input}
+use Rattle.kernel_terms.specs.TableEntries.{signal_at, variable_at, channel_at, is_input}
 use Rattle.kernel_terms.specs.Expressions.{Expression, Test, kind_of}
 use Rattle.kernel_terms.specs.MayEnd.{ends0}
 use Rattle.kernel_terms.specs.Statements.{Stmt, Nothing, Pause, Emit, Assign, If, Present, Seq, Loop, Par, Trap, Exit, Abort, Suspend, Local, Send, Receive, SendWaits, Sent, ReceiveWaits, Received}
 use Rattle.kernel_terms.specs.WellFormed.{Scope, fits_expression, fits_test, fits_statement, is_given, is_emission, is_local_of, is_sender_of, is_variable_of, can_use, can_emit, same_kind}
 use Rattle.kernel_rules.specs.definitions.Registers.{statement_registers, registers, value_kinds}
-use Rattle.kernel_rules.specs.definitions.Signals.{put_at}
 use Rattle.tick_code.specs.WellKinded.{Class, Of, Constant, Fits, IsEither}
 use Rattle.surf_graph.specs.definitions.Formulas.{Wires, WiresBelow, Formula, Reads, Value, Holds}
-use Rattle.surf_graph.specs.definitions.Copies.{own_registers, Context, Copy, Emits, Sets, has, both_write, emitted_value, starting_if, start_context, other_context, part_context, branch_context, second_branch, weak_context, tested_context, local_context, choice_own, turn_own, behind, below, from}
+use Rattle.surf_graph.specs.definitions.Copies.{own_registers, Context, Copy, Sets, has, emitted_value, starting_if, start_context, other_context, part_context, branch_context, second_branch, weak_context, tested_context, local_context, choice_own, turn_own, below, from}
 use Rattle.surf_graph.specs.definitions.StartingCopies.{first_formula, chosen_copy, writes0, start}
 use Rattle.surf_graph.specs.definitions.KindedWires.{SameBelow, OperandsFit, has_literal_divisors, value_class}
-use Rattle.surf_graph.specs.definitions.KindedFormulas.{HasKind, HaveKinds}
-use Rattle.surf_graph.specs.definitions.KindedCopies.{EachCombines, HasRegisters, HaveVariables, ContextFits, EmissionsFit, SetsFit, IsKindedCopy, divides_by_literals, given_literal_divisors, register_kind}
+use Rattle.surf_graph.specs.definitions.KindedFormulas.{HasKind}
+use Rattle.surf_graph.specs.definitions.KindedCopies.{EachCombines, HasRegisters, HaveVariables, ContextFits, SetsFit, IsKindedCopy, divides_by_literals, given_literal_divisors, register_kind}
 use Rattle.surf_graph.proofs.Booleans.{left_of, right_of, either_true}
 use Rattle.surf_graph.proofs.Alternatives.{has_append, has_both_write}
-use Rattle.surf_graph.proofs.Frames.{wires_more, Inside, SetsBelow, sets_more}
+use Rattle.surf_graph.proofs.Frames.{wires_more, Inside}
 use Rattle.surf_graph.proofs.StartInside.{Outside, outside_part, outside_start, outside_other, outside_with, outside_local, inside_if, start_inside, sets_pair as pair_below}
 use Rattle.surf_graph.proofs.KindedExpressions.{none_fits, same_kind_is, same_twice, operands_still, value_fits}
-use Rattle.surf_graph.proofs.KindedOperations.{listed, listed_below, fits_as, either_other, small}
-use Rattle.surf_graph.proofs.KindedEquations.{same_less, value_class_still, fits_still, kinds_still}
-use Rattle.surf_graph.proofs.KindedParts.{Fitted, Kinded, same_itself, kinded_before, variables_still, fitted_still, context_still, context_behind, Own, own_listed, own_still, truth, whole, off_fits, first_registers, further_registers, at_register, sets_pair, nothing_kinded, class_if, class_fits, kinded_if, plain_kinded, trap_kinded, weak_classes, weak_kinded, tested_classes, tested_kinded, Statuses, two_statuses, behind_fitted, alternatives_kinded, beside_classes, beside_fitted}
+use Rattle.surf_graph.proofs.KindedOperations.{listed, fits_as, either_other, small}
+use Rattle.surf_graph.proofs.KindedEquations.{value_class_still, fits_still}
+use Rattle.surf_graph.proofs.KindedParts.{Kinded, kinded_before, variables_still, fitted_still, context_still, context_behind, own_listed, own_still, truth, whole, off_fits, first_registers, further_registers, at_register, sets_pair, class_if, kinded_if, plain_kinded, trap_kinded, weak_classes, weak_kinded, tested_classes, tested_kinded, two_statuses, behind_fitted, alternatives_kinded, beside_classes, beside_fitted}
 use Rattle.surf_graph.proofs.KindedLocals.{emits_signal, local_classes, inner_scope, local_context_fits, last_class, local_kinded}
 
 -- expressions that are given to something

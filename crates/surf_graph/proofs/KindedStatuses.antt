@@ -1,5 +1,5 @@
 -- Kinds of the wires of a domain's interface signals.
-use Rattle.std.proofs.Common.{◌≡◌, ℕ, suc, ◌+◌, ◌<◌, ◌≤◌, ◌==◌, pos, Bool, true, false, ◌&&◌, ◌||◌, cond, List, [], ◌∷◌, ◌++◌, length, map, Option, Some, None, refl, sym, ap, ◌∙◌, subst, arith}
+use Rattle.std.proofs.Common.{◌≡◌, ℕ, suc, ◌+◌, ◌<◌, ◌≤◌, ◌==◌, pos, Bool, true, false, ◌&&◌, ◌||◌, cond, List, [], ◌∷◌, length, map, Option, Some, None, refl, sym, ap, ◌∙◌, subst, arith}
 use Rattle.std.specs.Prelude.{unwrap_or}
 use Rattle.std.proofs.lemmas.List.{length-append, length-map}
 use Rattle.std.proofs.lemmas.Bool.{true≢false, or_left, or_right, eq-eqb, eqb-true}
@@ -15,19 +15,19 @@ use Rattle.tick_code.specs.WellKinded.{Class, Of, Constant, Fits}
 use Rattle.surf_graph.specs.definitions.Formulas.{Formula, Const, Get, Same, Equation, Within, Reads}
 use Rattle.surf_graph.specs.definitions.Formulas as formula
 use Rattle.surf_graph.specs.definitions.Copies.{Emits, Folded, fold_step, fold_emits, has}
-use Rattle.surf_graph.specs.definitions.DomainCopies.{place_in, value_before, fold_conditions, folded_as, folded_status, emitted_equations, handed_equations, status_equations, all_statuses, input_place}
+use Rattle.surf_graph.specs.definitions.DomainCopies.{value_before, fold_conditions, folded_as, folded_status, emitted_equations, handed_equations, status_equations, all_statuses}
 use Rattle.surf_graph.specs.definitions.KindedWires.{SameBelow}
-use Rattle.surf_graph.specs.definitions.KindedFormulas.{is_choice, HasKind, HaveKinds}
-use Rattle.surf_graph.specs.definitions.KindedCopies.{register_kind, EachCombines, HasRegisters, EmissionFits, EmissionsFit}
+use Rattle.surf_graph.specs.definitions.KindedFormulas.{HasKind, HaveKinds}
+use Rattle.surf_graph.specs.definitions.KindedCopies.{EachCombines, EmissionsFit}
 use Rattle.surf_graph.proofs.DomainStatuses.{no_value, valued_has}
-use Rattle.surf_graph.proofs.Frames.{EmitsBelow, emits_more, within_more, within_append}
+use Rattle.surf_graph.proofs.Frames.{EmitsBelow, emits_more, within_append}
 use Rattle.surf_graph.proofs.StartInside.{FoldInside, fold_inside}
-use Rattle.surf_graph.proofs.KindedExpressions.{none_fits, same_twice}
+use Rattle.surf_graph.proofs.KindedExpressions.{same_twice}
 use Rattle.surf_graph.proofs.KindedOperations.{listed, listed_below, listed_first, fits_as}
-use Rattle.surf_graph.proofs.KindedEquations.{same_less, fits_still, kinds_still, kinds_both}
+use Rattle.surf_graph.proofs.KindedEquations.{fits_still, kinds_still, kinds_both}
 use Rattle.surf_graph.proofs.KindedParts.{same_itself, truth, off_fits, emissions_still}
-use Rattle.surf_graph.proofs.KindedLocals.{emits_signal, one_class, last_class, FoldKinded, fold_kinded}
-use Rattle.surf_graph.proofs.KindedPlaces.{FrameParts, InputAt, input_has, listed_register, Places, places_still, places_head, places_tail}
+use Rattle.surf_graph.proofs.KindedLocals.{emits_signal, one_class, last_class, fold_kinded}
+use Rattle.surf_graph.proofs.KindedPlaces.{FrameParts, input_has, listed_register, Places, places_still, places_head, places_tail}
 
 -- the emissions of a signal
 
