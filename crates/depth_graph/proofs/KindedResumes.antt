@@ -1,32 +1,30 @@
 -- Resuming copies are well-kinded.
-use Rattle.std.proofs.Common.{◌≡◌, ◌≢◌, ℕ, ℤ, suc, ◌+◌, ◌<◌, ◌≤◌, nat_lt, ◌==◌, pos, Bool, true, false, ◌&&◌, ◌||◌, cond, List, [], ◌∷◌, ◌++◌, length, Option, Some, None, refl, sym, ap, ◌∙◌, subst, arith}
+use Rattle.std.proofs.Common.{◌≡◌, ◌≢◌, ℕ, ℤ, suc, ◌+◌, ◌<◌, ◌≤◌, nat_lt, ◌==◌, Bool, true, false, ◌&&◌, ◌||◌, cond, List, [], ◌∷◌, ◌++◌, length, Option, Some, None, refl, sym, ap, ◌∙◌, subst, arith}
 use Rattle.std.proofs.lemmas.List.{length-append}
 use Rattle.std.proofs.lemmas.Bool.{true≢false, eqb-false}
 use Rattle.std.proofs.lemmas.Bool.Decides.{nat_tests}
 use Rattle.java_values.specs.declared.kind.Kind.{Kind}
 use Rattle.java_values.specs.declared.kind.Kind.TheVariants as kind
 use Rattle.kernel_terms.specs.declared.tables.Tables.{Tables}
-use Rattle.kernel_terms.specs.TableEntries.{signal_at, variable_at, channel_at}
-use Rattle.kernel_terms.specs.Expressions.{Expression, Test}
+use Rattle.kernel_terms.specs.TableEntries.{signal_at, channel_at}
+use Rattle.kernel_terms.specs.Expressions.{Test}
 use Rattle.kernel_terms.specs.MayEnd.{ends1}
 use Rattle.kernel_terms.specs.Statements.{Stmt, Nothing, Pause, Emit, Assign, If, Present, Seq, Loop, Par, Trap, Exit, Abort, Suspend, Local, Send, Receive, SendWaits, Sent, ReceiveWaits, Received}
 use Rattle.kernel_terms.specs.WellFormed.{Scope, fits_test, fits_statement, is_given, is_local_of, is_variable_of, is_receiver_of}
 use Rattle.kernel_rules.specs.definitions.Registers.{statement_registers, registers, value_kinds}
-use Rattle.tick_code.specs.WellKinded.{Class, Of, Constant, Fits, IsEither}
-use Rattle.surf_graph.specs.definitions.Formulas.{Formula}
-use Rattle.surf_graph.specs.definitions.Copies.{Context, Copy, Sets, has, both_write, own_registers, starting_if, start_context, other_context, part_context, branch_context, second_branch, weak_context, tested_context, local_context, live_own, turn_own, behind, alternatives, below, from, joined}
+use Rattle.tick_code.specs.WellKinded.{Class, Of, Fits, IsEither}
+use Rattle.surf_graph.specs.definitions.Copies.{Context, Copy, has, own_registers, starting_if, start_context, other_context, part_context, branch_context, second_branch, weak_context, tested_context, local_context, live_own, turn_own, behind, alternatives, below, from}
 use Rattle.surf_graph.specs.definitions.StartingCopies.{writes0, start}
-use Rattle.surf_graph.specs.definitions.KindedWires.{SameBelow, has_literal_divisors}
+use Rattle.surf_graph.specs.definitions.KindedWires.{has_literal_divisors}
 use Rattle.surf_graph.specs.definitions.KindedFormulas.{HasKind}
-use Rattle.surf_graph.specs.definitions.KindedCopies.{EachCombines, HasRegisters, ContextFits, SetsFit, IsKindedCopy, divides_by_literals, register_kind}
+use Rattle.surf_graph.specs.definitions.KindedCopies.{EachCombines, HasRegisters, ContextFits, IsKindedCopy, divides_by_literals, register_kind}
 use Rattle.surf_graph.proofs.Booleans.{left_of, right_of, either_true}
 use Rattle.surf_graph.proofs.Alternatives.{has_append, has_both_write}
-use Rattle.surf_graph.proofs.Frames.{wires_more, Inside, sets_more, sets_append, sets_if}
-use Rattle.surf_graph.proofs.StartInside.{Outside, outside_part, outside_other, outside_start, outside_with, outside_local, inside_if, inside_pair, start_inside, sets_pair as pair_below}
-use Rattle.surf_graph.proofs.KindedExpressions.{none_fits, same_twice}
+use Rattle.surf_graph.proofs.Frames.{wires_more, sets_more, sets_append, sets_if}
+use Rattle.surf_graph.proofs.StartInside.{Outside, outside_with, outside_local, inside_if, inside_pair, start_inside, sets_pair as pair_below}
 use Rattle.surf_graph.proofs.KindedOperations.{listed, fits_as, small}
 use Rattle.surf_graph.proofs.KindedEquations.{fits_still}
-use Rattle.surf_graph.proofs.KindedParts.{Fitted, Kinded, kinded_before, variables_still, fitted_still, context_still, Own, own_listed, own_still, truth, whole, off_fits, first_registers, further_registers, at_register, sets_pair, sets_both, nothing_kinded, class_if, class_fits, kinded_if, trap_kinded, weak_classes, weak_kinded, tested_classes, tested_kinded, two_statuses, behind_fitted, alternatives_kinded, beside_classes, beside_fitted}
+use Rattle.surf_graph.proofs.KindedParts.{Kinded, kinded_before, variables_still, fitted_still, context_still, own_listed, own_still, truth, whole, first_registers, further_registers, at_register, sets_pair, sets_both, nothing_kinded, class_if, class_fits, kinded_if, trap_kinded, weak_classes, weak_kinded, tested_classes, tested_kinded, two_statuses, behind_fitted, alternatives_kinded, beside_classes, beside_fitted}
 use Rattle.surf_graph.proofs.KindedLocals.{emits_signal, local_classes, inner_scope, local_context_fits, last_class, local_kinded}
 use Rattle.surf_graph.proofs.KindedStarts.{Given, first_given, behind_given, other_given, trap_fits, one_or_other, is_same, own_starts, start_kinded, kinded_copy}
 use Rattle.depth_graph.specs.definitions.ResumingCopies.{writes1, writes_behind, held_context, waiting_copy, last_formula, resume}
