@@ -32,3 +32,4 @@ pub mod KindedOperations
 pub mod Adding
 pub mod SpellingOut
 pub mod CopiesBuilt
+pub mod LeavesBuilt
