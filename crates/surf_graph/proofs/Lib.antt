@@ -33,3 +33,4 @@ pub mod Adding
 pub mod SpellingOut
 pub mod CopiesBuilt
 pub mod LeavesBuilt
+pub mod StartForms

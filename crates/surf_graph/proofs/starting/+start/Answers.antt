@@ -1,0 +1,80 @@
+use Rattle.std.proofs.Common.{List, length, map, sym, subst, ap, ◌∙◌}
+use Rattle.std.proofs.lemmas.Result.{IfOk-weaker}
+use Rattle.kernel_terms.specs.declared.tables.Tables.{Tables}
+use Rattle.kernel_terms.specs.Expressions.{expression}
+use Rattle.kernel_terms.specs.Statements.{Stmt, statement, Nothing, Pause, Emit, Assign, Send, Receive, optional_expression, sequence, parallel}
+use Rattle.kernel_terms.proofs.StatementLayers.{statement-Nothing, statement-Pause, statement-Emit, statement-Assign, statement-Send, statement-Receive}
+use Rattle.std.proofs.lemmas.List.{nil_from_length}
+use Rattle.surf_graph.proofs.StartForms.{unbuilt-wide}
+use Rattle.kernel_terms.specs.declared.term.Term.{Term}
+use Rattle.surf_graph.specs.declared.copy_builder.Made.{Made}
+use Rattle.surf_graph.specs.StartsBuilt.{Starts}
+use Rattle.surf_graph.proofs.starting.+start.Goals as goal
+
+pub start-returns-in-Nothing : goal.start-returns-in-Nothing
+start-returns-in-Nothing t c =
+    let new = c.start_nothing.new.b in
+    IfOk-weaker c.start_nothing.result (λ (made : Made). (tables : Tables) → Starts tables c.args.b.now new c.args.given Nothing made)
+    (λ (made : Made). Starts c.args.tables.now c.args.b.now new c.args.given (statement c.args.term.now) made)
+    (λ made h. subst (λ (p : Stmt). Starts c.args.tables.now c.args.b.now new c.args.given p made) (sym (statement-Nothing c.args.term.now c.in-Nothing.is)) (h c.args.tables.now))
+    c.start_nothing.ensures
+
+pub start-returns-in-Pause : goal.start-returns-in-Pause
+start-returns-in-Pause t c =
+    let new = c.start_pause.new.b in
+    IfOk-weaker c.start_pause.result (λ (made : Made). (tables : Tables) → Starts tables c.args.b.now new c.args.given Pause made)
+    (λ (made : Made). Starts c.args.tables.now c.args.b.now new c.args.given (statement c.args.term.now) made)
+    (λ made h. subst (λ (p : Stmt). Starts c.args.tables.now c.args.b.now new c.args.given p made) (sym (statement-Pause c.args.term.now c.in-Pause.is)) (h c.args.tables.now))
+    c.start_pause.ensures
+
+pub start-returns-in-Emit : goal.start-returns-in-Emit
+start-returns-in-Emit t c =
+    let new = c.start_emission.new.b in
+    IfOk-weaker c.start_emission.result (λ (made : Made). (tables : Tables) → Starts tables c.args.b.now new c.args.given (Emit c.in-Emit.signal (optional_expression c.in-Emit.value)) made)
+    (λ (made : Made). Starts c.args.tables.now c.args.b.now new c.args.given (statement c.args.term.now) made)
+    (λ made h. subst (λ (p : Stmt). Starts c.args.tables.now c.args.b.now new c.args.given p made) (sym (statement-Emit c.args.term.now c.in-Emit.signal c.in-Emit.value c.in-Emit.is)) (h c.args.tables.now))
+    c.start_emission.ensures
+
+pub start-returns-in-Assign : goal.start-returns-in-Assign
+start-returns-in-Assign t c =
+    let new = c.start_assignment.new.b in
+    IfOk-weaker c.start_assignment.result (λ (made : Made). (tables : Tables) → Starts tables c.args.b.now new c.args.given (Assign c.in-Assign.var (expression c.in-Assign.value)) made)
+    (λ (made : Made). Starts c.args.tables.now c.args.b.now new c.args.given (statement c.args.term.now) made)
+    (λ made h. subst (λ (p : Stmt). Starts c.args.tables.now c.args.b.now new c.args.given p made) (sym (statement-Assign c.args.term.now c.in-Assign.var c.in-Assign.value c.in-Assign.is)) (h c.args.tables.now))
+    c.start_assignment.ensures
+
+pub start-returns-in-Send : goal.start-returns-in-Send
+start-returns-in-Send t c =
+    let new = c.start_send.new.b in
+    IfOk-weaker c.start_send.result (λ (made : Made). (tables : Tables) → Starts tables c.args.b.now new c.args.given (Send c.in-Send.channel (expression c.in-Send.value)) made)
+    (λ (made : Made). Starts c.args.tables.now c.args.b.now new c.args.given (statement c.args.term.now) made)
+    (λ made h. subst (λ (p : Stmt). Starts c.args.tables.now c.args.b.now new c.args.given p made) (sym (statement-Send c.args.term.now c.in-Send.channel c.in-Send.value c.in-Send.is)) (h c.args.tables.now))
+    c.start_send.ensures
+
+pub start-returns-in-Receive : goal.start-returns-in-Receive
+start-returns-in-Receive t c =
+    let new = c.start_receive.new.b in
+    IfOk-weaker c.start_receive.result (λ (made : Made). (tables : Tables) → Starts tables c.args.b.now new c.args.given (Receive c.in-Receive.channel) made)
+    (λ (made : Made). Starts c.args.tables.now c.args.b.now new c.args.given (statement c.args.term.now) made)
+    (λ made h. subst (λ (p : Stmt). Starts c.args.tables.now c.args.b.now new c.args.given p made) (sym (statement-Receive c.args.term.now c.in-Receive.channel c.in-Receive.is)) (h c.args.tables.now))
+    c.start_receive.ensures
+
+pub start_parallel-returns-then-count-eq0 : goal.start_parallel-returns-then-count-eq0
+start_parallel-returns-then-count-eq0 t c =
+    let new = c.start_nothing.new.b in
+    IfOk-weaker c.start_nothing.result (λ (made : Made). (tables : Tables) → Starts tables c.args.b.now new c.args.given Nothing made)
+    (λ (made : Made). Starts c.args.tables.now c.args.b.now new c.args.given (parallel (map statement c.args.parts.now)) made)
+    (λ made h. subst (λ (ts : List Term). Starts c.args.tables.now c.args.b.now new c.args.given (parallel (map statement ts)) made) (sym (nil_from_length c.args.parts.now c.if-count-eq0.true)) (h c.args.tables.now))
+    c.start_nothing.ensures
+
+pub start_sequence-returns-then-count-eq0 : goal.start_sequence-returns-then-count-eq0
+start_sequence-returns-then-count-eq0 t c =
+    let new = c.start_nothing.new.b in
+    IfOk-weaker c.start_nothing.result (λ (made : Made). (tables : Tables) → Starts tables c.args.b.now new c.args.given Nothing made)
+    (λ (made : Made). Starts c.args.tables.now c.args.b.now new c.args.given (sequence (map statement c.args.parts.now)) made)
+    (λ made h. subst (λ (ts : List Term). Starts c.args.tables.now c.args.b.now new c.args.given (sequence (map statement ts)) made) (sym (nil_from_length c.args.parts.now c.if-count-eq0.true)) (h c.args.tables.now))
+    c.start_nothing.ensures
+
+pub start_parallel-unreachable-requires : goal.start_parallel-unreachable-requires
+start_parallel-unreachable-requires t c = unbuilt-wide (length c.args.b.now.wires.variables.items) (length c.args.b.now.emits.items) c.args.parts.now c.if-count-gt1.true c.requires.built
+
