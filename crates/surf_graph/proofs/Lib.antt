@@ -34,3 +34,4 @@ pub mod SpellingOut
 pub mod CopiesBuilt
 pub mod LeavesBuilt
 pub mod StartForms
+pub mod SequenceStarts

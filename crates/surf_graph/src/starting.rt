@@ -98,6 +98,7 @@ fn last_is_built(
 
 // Gives the own wires of these sequences their statuses, by that of the last part, and answers the
 // status of all.
+#[tactic(auto, using(crate::proofs::SequenceStarts::closing_steps))]
 fn close_turns(builder: &mut Builder, turns: &[Turn], last: u32) -> Result<u32, NoMemory>
     ensures { IfOk result (λ all. Closes builder.old builder.new turns.now last all) }
 {

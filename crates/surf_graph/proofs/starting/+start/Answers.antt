@@ -6,6 +6,8 @@ use Rattle.kernel_terms.specs.Statements.{Stmt, statement, Nothing, Pause, Emit,
 use Rattle.kernel_terms.proofs.StatementLayers.{statement-Nothing, statement-Pause, statement-Emit, statement-Assign, statement-Send, statement-Receive}
 use Rattle.std.proofs.lemmas.List.{nil_from_length}
 use Rattle.surf_graph.proofs.StartForms.{unbuilt-wide}
+use Rattle.surf_graph.specs.declared.copy_builder.Turn.{Turn}
+use Rattle.surf_graph.proofs.SequenceStarts.{turn_opens, Passes, passes_none}
 use Rattle.kernel_terms.specs.declared.term.Term.{Term}
 use Rattle.surf_graph.specs.declared.copy_builder.Made.{Made}
 use Rattle.surf_graph.specs.StartsBuilt.{Starts}
@@ -78,3 +80,13 @@ start_sequence-returns-then-count-eq0 t c =
 pub start_parallel-unreachable-requires : goal.start_parallel-unreachable-requires
 start_parallel-unreachable-requires t c = unbuilt-wide (length c.args.b.now.wires.variables.items) (length c.args.b.now.emits.items) c.args.parts.now c.if-count-gt1.true c.requires.built
 
+pub open_turn-returns : goal.open_turn-returns
+open_turn-returns t c =
+    turn_opens c.args.tables.now c.args.b.now c.take_own.new.self c.start.new.b c.give_is_status.new.builder c.args.given (statement c.args.part.now) c.in_ok-own.own c.in_ok-made.made
+    c.in_ok-own.ensures.first c.in_ok-own.ensures.next c.in_ok-own.ensures.below c.take_own.ensures.equations c.take_own.ensures.further c.in_ok-made.ensures c.in_ok-give_is_status.ensures
+
+pub start_sequence-loop-i-init : goal.start_sequence-loop-i-init
+start_sequence-loop-i-init t c =
+    let whole = sequence (map statement c.args.parts.now) in
+    subst (λ (ts : List Turn). Passes c.args.tables.now c.args.b.now c.args.b.now c.args.given c.args.given whole whole ts) (sym c.new-turns.ensures.items)
+    (passes_none c.args.tables.now c.args.b.now c.args.given whole c.requires.built c.requires.room)
