@@ -1,5 +1,5 @@
 -- The starting copies of the parts of a sequence, one behind the other.
-use Rattle.std.proofs.Common.{◌≡◌, ℕ, ◌+◌, ◌^◌, ◌<◌, ◌≤◌, Bool, true, false, ◌&&◌, cond, List, [], ◌∷◌, ◌++◌, length, drop, get_or, arith, refl, ap, ap₂, ◌∙◌, sym, subst, append_assoc, append-nil, length-append, add-one, drop-cons, slice_index, suc}
+use Rattle.std.proofs.Common.{◌≡◌, ℕ, ◌+◌, ◌^◌, ◌<◌, ◌≤◌, Bool, true, false, ◌&&◌, not, cond, List, [], ◌∷◌, ◌++◌, length, drop, get_or, arith, refl, ap, ap₂, ◌∙◌, sym, subst, append_assoc, append-nil, length-append, add-one, drop-cons, slice_index, suc}
 use Rattle.std.proofs.Math.Path.{fun_ext}
 use Rattle.std.proofs.Math.ListN.{drop_of_length-le}
 use Rattle.std.specs.List.Sorted.{IsPermutation}
@@ -369,3 +369,11 @@ passes_end tables old now mid b given here whole rest turns all made f s cl =
       ends = s.ends ∙ sym f.ends;
       register = λ t. s.register t ∙ f.register;
     }
+
+pub not_false : (b : Bool) → not b ≡ false → b ≡ true
+not_false true e = refl
+not_false false e = cc
+
+pub not_true : (b : Bool) → not b ≡ true → b ≡ false
+not_true true e = cc
+not_true false e = refl

@@ -1,16 +1,17 @@
-use Rattle.std.proofs.Common.{List, length, map, sym, subst, ap, ◌∙◌}
+use Rattle.std.proofs.Common.{◌≡◌, ℕ, ◌+◌, ◌-◌, [], ◌∷◌, ◌++◌, drop, arith, List, length, map, sym, subst, ap, ◌∙◌}
 use Rattle.std.proofs.lemmas.Result.{IfOk-weaker}
 use Rattle.kernel_terms.specs.declared.tables.Tables.{Tables}
 use Rattle.kernel_terms.specs.Expressions.{expression}
-use Rattle.kernel_terms.specs.Statements.{Stmt, statement, Nothing, Pause, Emit, Assign, Send, Receive, optional_expression, sequence, parallel}
+use Rattle.kernel_terms.specs.Statements.{Stmt, Seq, statement, Nothing, Pause, Emit, Assign, Send, Receive, optional_expression, sequence, parallel}
 use Rattle.kernel_terms.proofs.StatementLayers.{statement-Nothing, statement-Pause, statement-Emit, statement-Assign, statement-Send, statement-Receive}
 use Rattle.std.proofs.lemmas.List.{nil_from_length}
 use Rattle.surf_graph.proofs.StartForms.{unbuilt-wide}
 use Rattle.surf_graph.specs.declared.copy_builder.Turn.{Turn}
-use Rattle.surf_graph.proofs.SequenceStarts.{turn_opens, Passes, passes_none}
+use Rattle.surf_graph.proofs.SequenceStarts.{turn_opens, Passes, passes_none, passes_step, passes_stop, passes_end, not_false, not_true}
 use Rattle.kernel_terms.specs.declared.term.Term.{Term}
+use Rattle.surf_graph.specs.declared.copy_builder.Given.{Given}
 use Rattle.surf_graph.specs.declared.copy_builder.Made.{Made}
-use Rattle.surf_graph.specs.StartsBuilt.{Starts}
+use Rattle.surf_graph.specs.StartsBuilt.{Starts, Closes}
 use Rattle.surf_graph.proofs.starting.+start.Goals as goal
 
 pub start-returns-in-Nothing : goal.start-returns-in-Nothing
@@ -90,3 +91,56 @@ start_sequence-loop-i-init t c =
     let whole = sequence (map statement c.args.parts.now) in
     subst (λ (ts : List Turn). Passes c.args.tables.now c.args.b.now c.args.b.now c.args.given c.args.given whole whole ts) (sym c.new-turns.ensures.items)
     (passes_none c.args.tables.now c.args.b.now c.args.given whole c.requires.built c.requires.room)
+
+pub start_sequence-loop-i-preserved : goal.start_sequence-loop-i-preserved
+start_sequence-loop-i-preserved t c =
+    let tables = c.args.tables.now in
+    let old = c.args.b.now in
+    let now = c.loop-i.b in
+    let parts = c.args.parts.now in
+    let whole = sequence (map statement parts) in
+    let p = statement c.index-parts-i.result in
+    let q = sequence (map statement (drop (c.loop-i.i + 1) parts)) in
+    let own = c.in_ok-opened.opened.own in
+    let made = c.in_ok-opened.opened.made in
+    let here : Given = record { go = own + 2; hold = 0; keep = c.loop-i.here.keep; register = made.register } in
+    let before : Passes tables old now c.args.given c.loop-i.here whole (Seq p q) c.loop-i.turns.items = subst (λ (r : Stmt). Passes tables old now c.args.given c.loop-i.here whole r c.loop-i.turns.items) c.turn_is_built.ensures.turn c.loop-i.invariant in
+    subst (λ (ts : List Turn). Passes tables old c.open_turn.new.b c.args.given here whole q ts) (sym c.in_ok-push.ensures.items)
+    (passes_step tables old now c.open_turn.new.b c.args.given c.loop-i.here whole p q c.loop-i.turns.items own made before c.in_ok-opened.ensures (not_false made.ends c.if-not-opened.false))
+
+pub start_sequence-returns-then-not-opened : goal.start_sequence-returns-then-not-opened
+start_sequence-returns-then-not-opened t c =
+    let tables = c.args.tables.now in
+    let old = c.args.b.now in
+    let now = c.loop-i.b in
+    let mid = c.open_turn.new.b in
+    let b = c.close_turns.new.builder in
+    let parts = c.args.parts.now in
+    let whole = sequence (map statement parts) in
+    let p = statement c.index-parts-i.result in
+    let q = sequence (map statement (drop (c.loop-i.i + 1) parts)) in
+    let own = c.in_ok-opened.opened.own in
+    let made = c.in_ok-opened.opened.made in
+    let all = c.in_ok-status.status in
+    let turn : Turn = record { own = own; status = made.status } in
+    let before : Passes tables old now c.args.given c.loop-i.here whole (Seq p q) c.loop-i.turns.items = subst (λ (r : Stmt). Passes tables old now c.args.given c.loop-i.here whole r c.loop-i.turns.items) c.turn_is_built.ensures.turn c.loop-i.invariant in
+    let closed : Closes mid.builder b (c.loop-i.turns.items ++ (turn ∷ [])) 0 all = subst (λ (ts : List Turn). Closes mid.builder b ts 0 all) (c.deref.ensures.value ∙ c.in_ok-push.ensures.items) c.in_ok-status.ensures in
+    passes_stop tables old now mid b c.args.given c.loop-i.here whole p q c.loop-i.turns.items own all made before c.in_ok-opened.ensures (not_true made.ends c.if-not-opened.true) closed
+
+pub start_sequence-returns : goal.start_sequence-returns
+start_sequence-returns t c =
+    let tables = c.args.tables.now in
+    let old = c.args.b.now in
+    let now = c.loop-i.b in
+    let mid = c.start.new.b in
+    let b = c.close_turns-2.new.builder in
+    let parts = c.args.parts.now in
+    let whole = sequence (map statement parts) in
+    let p = statement c.index-parts-count.result in
+    let made = c.in_ok-made.made in
+    let all = c.in_ok-status-2.status in
+    let at : c.loop-i.i ≡ length parts - 1 = omega arith in
+    let before : Passes tables old now c.args.given c.loop-i.here whole (sequence (map statement (drop (length parts - 1) parts))) c.loop-i.turns.items = subst (λ (k : ℕ). Passes tables old now c.args.given c.loop-i.here whole (sequence (map statement (drop k parts))) c.loop-i.turns.items) at c.loop-i.invariant in
+    let last : Passes tables old now c.args.given c.loop-i.here whole p c.loop-i.turns.items = subst (λ (r : Stmt). Passes tables old now c.args.given c.loop-i.here whole r c.loop-i.turns.items) c.last_is_built.ensures.all before in
+    let closed : Closes mid.builder b c.loop-i.turns.items made.status all = subst (λ (ts : List Turn). Closes mid.builder b ts made.status all) c.deref-2.ensures.value c.in_ok-status-2.ensures in
+    passes_end tables old now mid b c.args.given c.loop-i.here whole p c.loop-i.turns.items all made last c.in_ok-made.ensures closed
