@@ -42,8 +42,8 @@ closes_more old now new ts i last all t lt is c w =
     let mine : ℕ → Equation = λ (s : ℕ). equation t.own (Greater t.status s) in
     let others : List Equation = closing rest last in
     let told : SpellsOut old new (mine all ∷ others) = other_spelled_out old new (others ++ (mine all ∷ [])) (mine all ∷ others)
-        (IsPermutation-sym (others ++ (mine all ∷ [])) (mine all ∷ others) (IsPermutation-to_front others (mine all)))
-        (more_spelled_out old now new others (mine all) c.equations w) in
+    (IsPermutation-sym (others ++ (mine all ∷ [])) (mine all ∷ others) (IsPermutation-to_front others (mine all)))
+    (more_spelled_out old now new others (mine all) c.equations w) in
     subst (λ (l : List Turn). Closes old new l last t.own) (sym front) (record {
       equations = subst (λ s. SpellsOut old new (mine s ∷ others)) c.status told;
       next = w.next ∙ c.next;
@@ -198,8 +198,8 @@ turn_opens tables old taken mid b given p own made is next low same further s w 
     let status : made.status ≡ a.status = s.status ∙ ap (λ n. (start tables p (given_next n)).status) next in
     let mine : ℕ → Equation = λ (k : ℕ). equation (own + 2) (IsStatus k 0) in
     let told : SpellsOut old.builder b (mine made.status ∷ a.equations) = other_spelled_out old.builder b (a.equations ++ (mine made.status ∷ [])) (mine made.status ∷ a.equations)
-        (IsPermutation-sym (a.equations ++ (mine made.status ∷ [])) (mine made.status ∷ a.equations) (IsPermutation-to_front a.equations (mine made.status)))
-        (more_spelled_out old.builder mid.builder b a.equations (mine made.status) (both_spelled_out old.builder taken mid.builder [] a.equations (none_spelled_out old.builder taken (ap (λ v. v.items) same) further) x.equations) w) in
+    (IsPermutation-sym (a.equations ++ (mine made.status ∷ [])) (mine made.status ∷ a.equations) (IsPermutation-to_front a.equations (mine made.status)))
+    (more_spelled_out old.builder mid.builder b a.equations (mine made.status) (both_spelled_out old.builder taken mid.builder [] a.equations (none_spelled_out old.builder taken (ap (λ v. v.items) same) further) x.equations) w) in
     record {
       first = is;
       below = omega (arith, is, next, low);

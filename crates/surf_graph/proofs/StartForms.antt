@@ -3,7 +3,6 @@ use Rattle.std.proofs.Math.Seq.{drop-cons}
 use Rattle.std.proofs.Math.ListN.{drop_of_length-le}
 use Rattle.std.proofs.lemmas.List.{length-map}
 use Rattle.std.proofs.Common.{◌≡◌, ℕ, suc, ◌+◌, ◌<◌, ◌&&◌, add-one, drop, length-drop, length-append, Bool, true, false, List, [], ◌∷◌, length, map, get_or, arith, refl, ap, sym, subst, ◌∙◌}
-
 use Rattle.kernel_terms.specs.declared.expr.Expr.{Expr}
 use Rattle.kernel_terms.specs.declared.sig_test.SigTest.{SigTest}
 use Rattle.kernel_terms.specs.declared.tables.Tables.{Tables}

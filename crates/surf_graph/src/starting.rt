@@ -276,8 +276,5 @@ fn start_sequence(
     last_is_built(b, tables, parts, count - 1, last, here.register);
     let made = start(b, alloc, tables, last, here)?;
     let status = close_turns(&mut b.builder, &turns, made.status)?;
-    Ok(Made {
-        status,
-        ..made
-    })
+    Ok(Made { status, ..made })
 }
