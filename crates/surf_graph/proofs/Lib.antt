@@ -41,3 +41,8 @@ pub mod KindedStatuses
 pub mod KindedDomains
 pub mod KindedDomainOperations
 pub mod Adding
+pub mod SpellingOut
+pub mod CopiesBuilt
+pub mod LeavesBuilt
+pub mod StartForms
+pub mod SequenceStarts

@@ -3,12 +3,17 @@
 #![tactic(auto)]
 
 mod builder;
+mod change;
+mod copy_builder;
 mod domain_laws;
 mod expression;
+mod formulas;
 mod kind_laws;
 mod laws;
 mod rows;
 mod spelling;
+mod starting;
+mod starting_leaves;
 mod statuses;
 mod wire_tables;
 
@@ -21,6 +26,12 @@ pub use kind_laws::{
     fitting_entries_combine, operations_are_well_kinded, operations_of_formulas_are_well_kinded,
     spelled_equations_are_well_kinded, starting_copies_are_well_kinded,
     starting_domains_are_well_kinded,
+};
+pub use change::Change;
+pub use copy_builder::{CopyBuilder, Given, Guarded, Made, add_guarded, change_wire};
+pub use formulas::{
+    give_and, give_choice, give_code, give_constant, give_emitted, give_greater, give_is_status,
+    give_value,
 };
 pub use laws::{
     starting_copies_tell_ticks, starting_operations_tell_ticks, starting_ticks_are_told,
@@ -35,6 +46,7 @@ pub use spelling::{
     expressions_on_wires_have_their_values, spelled_equations_hold, spelled_equations_say_the_same,
     written_equations_are_spelled,
 };
+pub use starting::start;
 pub use statuses::{add_combined, give_status, give_trap, give_weak_abort};
 pub use wire_tables::WireTables;
 
