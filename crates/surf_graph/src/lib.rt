@@ -21,8 +21,8 @@ pub use laws::{
     starting_ticks_are_told_by_operations,
 };
 pub use rows::{
-    constant_divisors, scattered_operations, starting_domain, starting_emission, starting_operations,
-    starting_parallel, starting_pause, starting_sequence,
+    constant_divisors, scattered_operations, starting_domain, starting_emission,
+    starting_operations, starting_parallel, starting_pause, starting_sequence,
 };
 pub use spelling::{
     equations_are_spelled_one_by_one, equations_stay_spelled,
