@@ -33,3 +33,6 @@ pub mod Adding
 pub mod SpellingOut
 pub mod CopiesBuilt
 pub mod LeavesBuilt
+pub mod Growing
+pub mod OwnEmissions
+pub mod OwnSets
