@@ -36,3 +36,4 @@ pub mod LeavesBuilt
 pub mod Growing
 pub mod OwnEmissions
 pub mod OwnSets
+pub mod DomainPlaces

@@ -144,3 +144,6 @@ places_end old now n k count i done p is size =
   where
     nothing : (count i : ℕ) → count ≤ i → count - i ≡ 0
     nothing count i h = omega (arith, h)
+
+pub bucket_at : (lists : List (Vec Guarded Global)) (r : ℕ) (v : Vec Guarded Global) → r < length lists → v ≡ get_or lists r v → bucket lists r ≡ v.items
+bucket_at lists r v less is = get_or-map (λ (x : Vec Guarded Global). x.items) lists r v [] less ∙ ap (λ (x : Vec Guarded Global). x.items) (sym is)

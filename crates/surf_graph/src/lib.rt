@@ -7,6 +7,7 @@ mod change;
 mod copy_builder;
 mod domain_formulas;
 mod domain_laws;
+mod domain_statuses;
 mod emissions;
 mod expression;
 mod formulas;
@@ -25,6 +26,7 @@ pub use change::Change;
 pub use copy_builder::{CopyBuilder, Given, Guarded, Made, add_guarded, change_wire};
 pub use domain_formulas::{give_combined, give_or, give_place, give_same, give_zero};
 pub use domain_laws::starting_domains_tell_ticks;
+pub use domain_statuses::{StatusPlaces, StatusWires, give_statuses};
 pub use emissions::{Emitted, add_conditions, add_emissions, add_status};
 pub use expression::{test, value};
 pub use formulas::{
