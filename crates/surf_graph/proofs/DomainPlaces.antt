@@ -173,10 +173,10 @@ status_more tables d p es whole s rest info at to places left others old now new
     let held = so.value in
     let own = cond (is_input i.sort) (input_equations at.present at.value places.input) (output_equations at.present at.value at.before (place_before i.kind places.value) (folded_as i i.kind s n at.before es)) in
     let grows : Grows now new (wires_folded i s n at.before es) own =
-        subst (λ x. Grows now new (wires_folded x s n at.before es) (cond (is_input x.sort) (input_equations at.present at.value places.input) (output_equations at.present at.value at.before (place_before x.kind places.value) (folded_as x x.kind s n at.before es)))) known made in
+    subst (λ x. Grows now new (wires_folded x s n at.before es) (cond (is_input x.sort) (input_equations at.present at.value places.input) (output_equations at.present at.value at.before (place_before x.kind places.value) (folded_as x x.kind s n at.before es)))) known made in
     let same = status_same tables d p s at.present at.value at.before n es places
-        (λ h. let c = kept_here (handed tables s) (inputs_of tables d) (kept (handed tables) rest) so.from ic s le h so.inputs in omega (arith, c, place))
-        (λ h. let c = kept_here (has_value tables s) (valued_of tables d) (kept (has_value tables) rest) so.from vc s le h so.values in omega (arith, c, held)) in
+    (λ h. let c = kept_here (handed tables s) (inputs_of tables d) (kept (handed tables) rest) so.from ic s le h so.inputs in omega (arith, c, place))
+    (λ h. let c = kept_here (has_value tables s) (valued_of tables d) (kept (has_value tables) rest) so.from vc s le h so.values in omega (arith, c, held)) in
     let folded = length (folded_as i i.kind s n at.before es).equations in
     let calm = quiet_wires (is_input i.sort) folded (λ h. quiet_fold i i.kind s n at.before es (quiet h)) in
     let taken = grows.next in
@@ -186,8 +186,8 @@ status_more tables d p es whole s rest info at to places left others old now new
     let v1 : suc at.value ≡ to.value = omega (arith, value) in
     let k1 : suc at.before ≡ to.before = omega (arith, before) in
     let step : behind (suc at.present) (suc at.value) (suc at.before) (n + folded) ≡ behind to.present to.value to.before new.next =
-        ap (λ x. behind x (suc at.value) (suc at.before) (n + folded)) b1 ∙ ap (λ x. behind to.present x (suc at.before) (n + folded)) v1 ∙ ap (λ x. behind to.present to.value x (n + folded)) k1
-        ∙ ap (behind to.present to.value to.before) (sym rise) in
+    ap (λ x. behind x (suc at.value) (suc at.before) (n + folded)) b1 ∙ ap (λ x. behind to.present x (suc at.before) (n + folded)) v1 ∙ ap (λ x. behind to.present to.value x (n + folded)) k1
+    ∙ ap (behind to.present to.value to.before) (sym rise) in
     let one : all_statuses tables d p (s ∷ rest) at.present at.value at.before n es ≡ own ++ behind to.present to.value to.before new.next = ap₂ (λ x y. x ++ y) same step in
     let count = size_own (is_input i.sort) folded (input_equations at.present at.value places.input) (output_equations at.present at.value at.before (place_before i.kind places.value) (folded_as i i.kind s n at.before es)) refl (omega arith) in
     let both = length-append so.sofar own in

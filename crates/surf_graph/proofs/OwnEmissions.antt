@@ -73,7 +73,7 @@ emission_more old now new info all gs i some value g r less is f h =
     let step = fold_step info n some value (emission_of 0 g) (record { equations = []; some = n + 2; value = n + 1 }) in
     let rises : n + 3 ≡ new.next = sym (h.grows).next in
     let rest : own_fold info (n + 3) (n + 2) (n + 1) (drop (i + 1) gs) ≡ own_fold info new.next r.some r.value (drop (i + 1) gs) =
-        ap (λ m. own_fold info m (n + 2) (n + 1) (drop (i + 1) gs)) rises ∙ ap (λ m. own_fold info new.next m (n + 1) (drop (i + 1) gs)) (sym h.some) ∙ ap (λ m. own_fold info new.next r.some m (drop (i + 1) gs)) (sym h.value) in
+    ap (λ m. own_fold info m (n + 2) (n + 1) (drop (i + 1) gs)) rises ∙ ap (λ m. own_fold info new.next m (n + 1) (drop (i + 1) gs)) (sym h.some) ∙ ap (λ m. own_fold info new.next r.some m (drop (i + 1) gs)) (sym h.value) in
     less_folding old now new all (own_fold info n some value (drop i gs)) (own_fold info new.next r.some r.value (drop (i + 1) gs)) step.equations f h.grows
     (ap (own_fold info n some value) (next_is gs i g less is) ∙ ap (λ x. fold_step info n some value (emission_of 0 g) x) rest)
 
@@ -91,7 +91,7 @@ condition_more old now new all gs i some wire g less is f h =
     let step = condition_step n some g (record { equations = []; some = n; value = 0 }) in
     let rises : n + 1 ≡ new.next = sym (h.grows).next in
     let rest : own_conditions (n + 1) n (drop (i + 1) gs) ≡ own_conditions new.next wire (drop (i + 1) gs) =
-        ap (λ m. own_conditions m n (drop (i + 1) gs)) rises ∙ ap (λ m. own_conditions new.next m (drop (i + 1) gs)) (sym h.some) in
+    ap (λ m. own_conditions m n (drop (i + 1) gs)) rises ∙ ap (λ m. own_conditions new.next m (drop (i + 1) gs)) (sym h.some) in
     less_folding old now new all (own_conditions n some (drop i gs)) (own_conditions new.next wire (drop (i + 1) gs)) step.equations f h.grows
     (ap (own_conditions n some) (next_is gs i g less is) ∙ ap (condition_step n some g) rest)
 

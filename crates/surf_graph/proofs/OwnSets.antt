@@ -78,11 +78,11 @@ registers_more old now new first next more kinds sets r k v wire less many is at
     let behind : suc n + length (f r) ≡ new.next = omega (arith, rises, size) in
     let next_one : suc r ≡ r + 1 = omega arith in
     let rest : register_equations (drop r kinds) r n f ≡ set_equations k n (f r) ++ register_equations (drop (r + 1) kinds) (r + 1) new.next f =
-        ap (λ l. register_equations l r n f) split ∙ ap (λ m. set_equations k n (f r) ++ register_equations (drop (r + 1) kinds) (suc r) m f) behind
-        ∙ ap (λ m. set_equations k n (f r) ++ register_equations (drop (r + 1) kinds) m new.next f) next_one in
+    ap (λ l. register_equations l r n f) split ∙ ap (λ m. set_equations k n (f r) ++ register_equations (drop (r + 1) kinds) (suc r) m f) behind
+    ∙ ap (λ m. set_equations k n (f r) ++ register_equations (drop (r + 1) kinds) m new.next f) next_one in
     let wires : register_wires (drop r kinds) r n f ≡ n ∷ register_wires (drop (r + 1) kinds) (r + 1) new.next f =
-        ap (λ l. register_wires l r n f) split ∙ ap (λ m. n ∷ register_wires (drop (r + 1) kinds) (suc r) m f) behind
-        ∙ ap (λ m. n ∷ register_wires (drop (r + 1) kinds) m new.next f) next_one in
+    ap (λ l. register_wires l r n f) split ∙ ap (λ m. n ∷ register_wires (drop (r + 1) kinds) (suc r) m f) behind
+    ∙ ap (λ m. n ∷ register_wires (drop (r + 1) kinds) m new.next f) next_one in
     record {
       remains = less_remains old now new (register_equations kinds 0 old.next f) (register_equations (drop r kinds) r n f) (set_equations k n (f r)) (register_equations (drop (r + 1) kinds) (r + 1) new.next f) so.remains g rest;
       wires =
@@ -126,7 +126,7 @@ places_more old now new n k count i less p w =
     let e : Equation = record { wire = n + i; formula = Get (k + i) } in
     let m = count - (i + 1) in
     let one : places (count - i) (n + i) (k + i) ≡ e ∷ places m (n + (i + 1)) (k + (i + 1)) =
-        ap (λ c. places c (n + i) (k + i)) (is_more count i less) ∙ ap (λ a. e ∷ places m a (suc (k + i))) (omega arith) ∙ ap (λ a. e ∷ places m (n + (i + 1)) a) (omega arith) in
+    ap (λ c. places c (n + i) (k + i)) (is_more count i less) ∙ ap (λ a. e ∷ places m a (suc (k + i))) (omega arith) ∙ ap (λ a. e ∷ places m (n + (i + 1)) a) (omega arith) in
     record {
       sofar = p.sofar ++ (e ∷ []);
       grows = more_grows old now new 0 p.sofar e p.grows w;

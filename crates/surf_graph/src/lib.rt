@@ -53,4 +53,6 @@ pub use statuses::{add_combined, give_status, give_trap, give_weak_abort};
 pub use wire_tables::WireTables;
 
 #[cfg(test)]
+mod domain_tests;
+#[cfg(test)]
 mod tests;

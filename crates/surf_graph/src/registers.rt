@@ -37,11 +37,7 @@ fn add_zero(builder: &mut Builder, kind: Kind) -> Result<(), NoMemory>
 }
 
 /// Adds the equations of a register of this kind, by its sets, and answers the wire that it gets.
-pub fn add_register(
-    builder: &mut Builder,
-    kind: Kind,
-    sets: &[Guarded],
-) -> Result<u32, NoMemory>
+pub fn add_register(builder: &mut Builder, kind: Kind, sets: &[Guarded]) -> Result<u32, NoMemory>
     ensures first { IfOk result (λ wire. wire ≡ builder.old.next) }
     ensures grows { OnOk result ((ss : List Sets) → sets_of ss ≡ sets.now
         → GrowsBy builder.old builder.new (set_equations kind builder.old.next ss)) }
