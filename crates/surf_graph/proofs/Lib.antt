@@ -46,3 +46,7 @@ pub mod CopiesBuilt
 pub mod LeavesBuilt
 pub mod StartForms
 pub mod SequenceStarts
+pub mod Growing
+pub mod OwnEmissions
+pub mod OwnSets
+pub mod DomainPlaces

@@ -1,5 +1,6 @@
 pub mod Building
 pub mod Copying
+pub mod Framing
 pub mod PartSolutions
 pub mod SmallCopies
 pub mod SmallDomains

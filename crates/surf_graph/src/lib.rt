@@ -5,11 +5,16 @@
 mod builder;
 mod change;
 mod copy_builder;
+mod domain_formulas;
 mod domain_laws;
+mod domain_statuses;
+mod emissions;
 mod expression;
 mod formulas;
 mod kind_laws;
 mod laws;
+mod places;
+mod registers;
 mod rows;
 mod spelling;
 mod starting;
@@ -29,6 +34,9 @@ pub use kind_laws::{
 };
 pub use change::Change;
 pub use copy_builder::{CopyBuilder, Given, Guarded, Made, add_guarded, change_wire};
+pub use domain_formulas::{give_combined, give_or, give_place, give_same, give_zero};
+pub use domain_statuses::{StatusPlaces, StatusWires, give_statuses};
+pub use emissions::{Emitted, add_conditions, add_emissions, add_status};
 pub use formulas::{
     give_and, give_choice, give_code, give_constant, give_emitted, give_greater, give_is_status,
     give_value,
@@ -37,6 +45,8 @@ pub use laws::{
     starting_copies_tell_ticks, starting_operations_tell_ticks, starting_ticks_are_told,
     starting_ticks_are_told_by_operations,
 };
+pub use places::read_places;
+pub use registers::{add_register, add_registers};
 pub use rows::{
     constant_divisors, scattered_operations, starting_domain, starting_emission,
     starting_operations, starting_parallel, starting_pause, starting_sequence,
@@ -50,5 +60,7 @@ pub use starting::start;
 pub use statuses::{add_combined, give_status, give_trap, give_weak_abort};
 pub use wire_tables::WireTables;
 
+#[cfg(test)]
+mod domain_tests;
 #[cfg(test)]
 mod tests;
