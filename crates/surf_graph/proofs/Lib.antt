@@ -30,3 +30,5 @@ pub mod SpelledRows
 pub mod KindedExpressions
 pub mod KindedOperations
 pub mod Adding
+pub mod SpellingOut
+pub mod CopiesBuilt

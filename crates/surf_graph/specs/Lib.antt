@@ -1,5 +1,7 @@
 pub mod Building
+pub mod Copying
 pub mod PartSolutions
 pub mod SmallCopies
 pub mod SmallDomains
+pub mod StartsBuilt
 pub mod definitions

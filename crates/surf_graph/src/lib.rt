@@ -3,8 +3,11 @@
 #![tactic(auto)]
 
 mod builder;
+mod change;
+mod copy_builder;
 mod domain_laws;
 mod expression;
+mod formulas;
 mod kind_laws;
 mod laws;
 mod rows;
@@ -13,8 +16,14 @@ mod statuses;
 mod wire_tables;
 
 pub use builder::{Builder, FIRST_FURTHER};
+pub use change::Change;
+pub use copy_builder::{CopyBuilder, Given, Guarded, Made, add_guarded};
 pub use domain_laws::starting_domains_tell_ticks;
 pub use expression::{test, value};
+pub use formulas::{
+    give_and, give_choice, give_code, give_constant, give_emitted, give_greater, give_is_status,
+    give_value,
+};
 pub use kind_laws::{operations_are_well_kinded, operations_of_formulas_are_well_kinded};
 pub use laws::{
     starting_copies_tell_ticks, starting_operations_tell_ticks, starting_ticks_are_told,

@@ -209,3 +209,8 @@ spelled_out n [] = []
 spelled_out n (e ∷ es) =
     let a = spelled n e.formula in
     a.equations ++ (gives e.wire a.operation ∷ spelled_out a.next es)
+
+-- the next further wire behind them
+abbrev pub further_after : ℕ → List Equation → ℕ
+further_after n [] = n
+further_after n (e ∷ es) = further_after (spelled n e.formula).next es
