@@ -30,5 +30,6 @@ pub mod SpelledRows
 pub mod KindedExpressions
 pub mod KindedOperations
 pub mod Adding
+pub mod Undoing
 pub mod SpellingOut
 pub mod CopiesBuilt

@@ -13,6 +13,7 @@ mod laws;
 mod rows;
 mod spelling;
 mod statuses;
+mod variables;
 mod wire_tables;
 
 pub use builder::{Builder, FIRST_FURTHER};
@@ -39,6 +40,7 @@ pub use spelling::{
     written_equations_are_spelled,
 };
 pub use statuses::{add_combined, give_status, give_trap, give_weak_abort};
+pub use variables::{set_wire, undo};
 pub use wire_tables::WireTables;
 
 #[cfg(test)]
