@@ -31,5 +31,6 @@ pub mod KindedExpressions
 pub mod KindedOperations
 pub mod Adding
 pub mod Undoing
+pub mod IncreasingVariables
 pub mod SpellingOut
 pub mod CopiesBuilt
