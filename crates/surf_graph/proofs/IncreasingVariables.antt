@@ -41,7 +41,7 @@ above_less x y (z ∷ zs) le h = let l = h.0 in ((let k : x < z = omega (arith, 
 apart : (x y : ℕ) → x < y → (y == x) ≡ false
 apart x y h = grind (arith, nat_tests)
 
-none_of : (a b : Bool) → a ≡ false → b ≡ false → a || b ≡ false
+pub none_of : (a b : Bool) → a ≡ false → b ≡ false → a || b ≡ false
 none_of a b h k = ap (λ i. i || b) h ∙ k
 
 pub above_lacks : (x : ℕ) (ys : List ℕ) → Above x ys → has ys x ≡ false
@@ -92,7 +92,7 @@ both_write_rises (x ∷ xs) ys =
 itself : (k : ℕ) → (k == k) ≡ true
 itself k = grind (arith, nat_tests)
 
-has_head : (x : ℕ) (xs : List ℕ) → has (x ∷ xs) x ≡ true
+pub has_head : (x : ℕ) (xs : List ℕ) → has (x ∷ xs) x ≡ true
 has_head x xs = ap (λ b. b || has xs x) (itself x)
 
 never : {C : Type 0} (b : Bool) → b ≡ true → b ≡ false → C

@@ -32,5 +32,6 @@ pub mod KindedOperations
 pub mod Adding
 pub mod Undoing
 pub mod IncreasingVariables
+pub mod JoinedVariables
 pub mod SpellingOut
 pub mod CopiesBuilt

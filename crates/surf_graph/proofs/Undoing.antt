@@ -43,7 +43,7 @@ undone_same (c ∷ cs) u v h x = ap (λ k. cond (c.variable == x) c.before k) (u
 at_number : (k q : ℕ) → is_at (nat_cmp k) q ≡ (k == q)
 at_number k q = grind (arith, nat_tests)
 
-same_number : (i j : ℕ) → (i == j) ≡ true → i ≡ j
+pub same_number : (i j : ℕ) → (i == j) ≡ true → i ≡ j
 same_number i j g = grind (arith, nat_tests)
 
 pub no_wires : (wires : List ℕ) (left : BTreeMap ℕ ℕ) → left.entries ≡ [] → HasWires [] wires left
@@ -119,7 +119,7 @@ fits_last mark n cs lt w =
           last_within mark n xs c le (subst (λ k. FitChanges n (drop mark k)) e w);
     }
 
-set_one : (now : List ℕ) (k w : ℕ) → k < length now → (y : ℕ) → slice_index (set now k w) y ≡ cond (k == y) w (slice_index now y)
+pub set_one : (now : List ℕ) (k w : ℕ) → k < length now → (y : ℕ) → slice_index (set now k w) y ≡ cond (k == y) w (slice_index now y)
 set_one now k w lt y =
     by_cases (k == y)
     (λ e. ap (λ i. slice_index (set now k w) i) (sym (same_number k y e)) ∙ get_or-set_same now k w 0 lt ∙ sym (ap (λ b. cond b w (slice_index now y)) e))

@@ -40,7 +40,7 @@ pub use spelling::{
     written_equations_are_spelled,
 };
 pub use statuses::{add_combined, give_status, give_trap, give_weak_abort};
-pub use variables::{set_wire, undo};
+pub use variables::{join, set_wire, undo};
 pub use wire_tables::WireTables;
 
 #[cfg(test)]
