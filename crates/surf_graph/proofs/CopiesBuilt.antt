@@ -16,10 +16,10 @@ use Rattle.surf_graph.proofs.Parts.{by_cases}
 use Rattle.surf_graph.proofs.Alternatives.{has_append}
 use Rattle.surf_graph.proofs.SpellingOut.{both_spelled_out}
 
-equal_if : (n m : ℕ) → (n == m) ≡ true → n ≡ m
+pub equal_if : (n m : ℕ) → (n == m) ≡ true → n ≡ m
 equal_if n m h = grind (arith, nat_tests)
 
-unequal_if : (n m : ℕ) → (n == m) ≡ false → n ≢ m
+pub unequal_if : (n m : ℕ) → (n == m) ≡ false → n ≢ m
 unequal_if n m h e = grind (arith, nat_tests)
 
 -- one entry of a list is another

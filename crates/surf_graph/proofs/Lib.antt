@@ -35,3 +35,4 @@ pub mod IncreasingVariables
 pub mod JoinedVariables
 pub mod SpellingOut
 pub mod CopiesBuilt
+pub mod LeavesBuilt

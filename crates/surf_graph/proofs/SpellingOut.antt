@@ -1,12 +1,16 @@
 -- Equations that are spelled out behind others.
-use Rattle.std.proofs.Common.{◌≡◌, ℕ, List, [], ◌∷◌, ◌++◌, refl, ap, ◌∙◌, sym, subst, append_assoc, append-nil}
+use Rattle.std.proofs.Common.{◌≡◌, ℕ, ◌+◌, ◌^◌, ◌≤◌, List, [], ◌∷◌, ◌++◌, refl, ap, ◌∙◌, sym, subst, append_assoc, append-nil}
 use Rattle.std.specs.List.Sorted.{IsPermutation}
 use Rattle.std.proofs.lemmas.List.Sorted.{IsPermutation-refl, IsPermutation-sym, IsPermutation-trans, IsPermutation-append}
 use Rattle.surf_graph.specs.declared.builder.Builder.{Builder}
 use Rattle.surf_graph.specs.Building.{Writes}
 use Rattle.surf_graph.specs.Copying.{SpellsOut}
-use Rattle.surf_graph.specs.definitions.Formulas.{Equation}
+use Rattle.surf_graph.specs.StartsBuilt.{Owns}
+use Rattle.surf_graph.specs.definitions.Formulas.{Formula, Equation}
 use Rattle.surf_graph.specs.definitions.SpelledOut.{gives, spelled, spelled_out, further_after}
+
+abbrev pub equation : ℕ → Formula → Equation
+equation k f = record { wire = k; formula = f }
 
 further_both : (n : ℕ) (xs ys : List Equation) → further_after n (xs ++ ys) ≡ further_after (further_after n xs) ys
 further_both n [] ys = refl
@@ -49,3 +53,15 @@ other_spelled_out old new xs ys p a =
 -- one more behind
 pub more_spelled_out : (old mid new : Builder) (xs : List Equation) (e : Equation) → SpellsOut old mid xs → Writes mid new (spelled mid.further e.formula) e.wire → SpellsOut old new (xs ++ (e ∷ []))
 more_spelled_out old mid new xs e a w = both_spelled_out old mid new xs (e ∷ []) a (one_spelled_out mid new e w)
+
+-- own wires that are taken, and then have these equations
+pub owned : (old taken new : Builder) (count n : ℕ) (es : ℕ → List Equation) → n ≡ old.next → taken.next ≡ old.next + count → taken.next ≤ 2 ^ 31 → taken.equations ≡ old.equations → taken.further ≡ old.further → new.next ≡ taken.next → SpellsOut taken new (es n)
+    → Owns old new count (es old.next) n
+owned old taken new count n es is next low same further still spelled =
+    record {
+      first = is;
+      next = still ∙ next;
+      below = subst (λ k. k ≤ 2 ^ 31) (sym still) low;
+      equations = subst (λ k. SpellsOut old new (es k)) is
+          (both_spelled_out old taken new [] (es n) (none_spelled_out old taken (ap (λ v. v.items) same) further) spelled);
+    }

@@ -1,5 +1,5 @@
 -- What builds the starting copy of a statement, and of which statements so far.
-use Rattle.std.specs.Prelude.{◌≡◌, ℕ, ◌+◌, nat_lt, Bool, true, false, ◌&&◌, List, [], ◌∷◌}
+use Rattle.std.specs.Prelude.{◌≡◌, ℕ, ◌+◌, ◌^◌, ◌≤◌, nat_lt, Bool, true, false, ◌&&◌, List, [], ◌∷◌}
 use Rattle.kernel_terms.specs.declared.tables.Tables.{Tables}
 use Rattle.kernel_terms.specs.Statements.{Stmt, Nothing, Pause, Emit, Assign, If, Present, Seq, Loop, Par, Trap, Exit, Abort, Suspend, Local, Send, Receive, SendWaits, Sent, ReceiveWaits, Received}
 use Rattle.kernel_terms.specs.MayEnd.{ends0}
@@ -41,6 +41,7 @@ is_built variables signals (Received c) = false
 pub record Owns (old new : Builder) (count : ℕ) (es : List Equation) (n : ℕ) : Type 0 where
   pub first : n ≡ old.next
   pub next : new.next ≡ old.next + count
+  pub below : new.next ≤ 2 ^ 31
   pub equations : SpellsOut old new es
 
 -- it is built, and this is its status, whether it is live, whether the statement may end, and the first register

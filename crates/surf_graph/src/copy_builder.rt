@@ -54,10 +54,34 @@ pub fn add_guarded(
     value: u32,
 ) -> Result<(), NoMemory>
     requires within { at < length lists.old.items }
-    ensures added { OnOk result (buckets lists.new.items ≡ set (buckets lists.old.items) at
+    ensures { OnOk result (buckets lists.new.items ≡ set (buckets lists.old.items) at
         (get_or (buckets lists.old.items) at [] ++
         record { condition = condition; value = value } ∷ [])) }
 {
     lists[at as usize].push(Guarded { condition, value })?;
+    Ok(())
+}
+
+/// Gives a variable another wire, and logs which wire it had.
+pub fn change_wire(
+    b: &mut CopyBuilder,
+    variable: u32,
+    before: u32,
+    wire: u32,
+) -> Result<(), NoMemory>
+    requires within { variable < length b.old.wires.variables.items }
+    ensures variables { OnOk result (b.new.wires.variables.items ≡
+        set b.old.wires.variables.items variable wire) }
+    ensures changes { OnOk result (b.new.changes.items ≡ b.old.changes.items ++
+        record { variable = variable; before = before } ∷ []) }
+    ensures present { b.new.wires.present ≡ b.old.wires.present }
+    ensures value { b.new.wires.value ≡ b.old.wires.value }
+    ensures last { b.new.wires.last ≡ b.old.wires.last }
+    ensures builder { b.new.builder ≡ b.old.builder }
+    ensures emits { b.new.emits ≡ b.old.emits }
+    ensures sets { b.new.sets ≡ b.old.sets }
+{
+    b.changes.push(Change { variable, before })?;
+    b.wires.variables[variable as usize] = wire;
     Ok(())
 }

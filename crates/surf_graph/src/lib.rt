@@ -12,13 +12,14 @@ mod kind_laws;
 mod laws;
 mod rows;
 mod spelling;
+mod starting_leaves;
 mod statuses;
 mod variables;
 mod wire_tables;
 
 pub use builder::{Builder, FIRST_FURTHER};
 pub use change::Change;
-pub use copy_builder::{CopyBuilder, Given, Guarded, Made, add_guarded};
+pub use copy_builder::{CopyBuilder, Given, Guarded, Made, add_guarded, change_wire};
 pub use domain_laws::starting_domains_tell_ticks;
 pub use expression::{test, value};
 pub use formulas::{
