@@ -75,11 +75,12 @@ rises_put x [] h = (tt, tt)
 rises_put x (z ∷ zs) h =
     rises_if (nat_lt x z) (x ∷ (z ∷ zs)) (z ∷ cond (x == z) zs (put_once x zs))
     (λ e. let lt = less_test x z e in ((lt, above_less x z zs (omega (arith, lt)) h.0), h))
-    (λ e.
-    (by_cases (x == z)
-    (λ i. subst (λ b. Above z (cond b zs (put_once x zs))) (sym i) h.0)
-    (λ i. subst (λ b. Above z (cond b zs (put_once x zs))) (sym i) (above_put z x zs (greater_test x z e i) h.0)),
-    rises_if (x == z) zs (put_once x zs) (λ i. h.1) (λ i. rises_put x zs h.1)))
+    (λ e. (
+      by_cases (x == z)
+          (λ i. subst (λ b. Above z (cond b zs (put_once x zs))) (sym i) h.0)
+          (λ i. subst (λ b. Above z (cond b zs (put_once x zs))) (sym i) (above_put z x zs (greater_test x z e i) h.0)),
+      rises_if (x == z) zs (put_once x zs) (λ i. h.1) (λ i. rises_put x zs h.1),
+    ))
 
 pub both_write_rises : (xs ys : List ℕ) → Rises (both_write xs ys)
 both_write_rises [] ys = tt
@@ -144,6 +145,7 @@ filter_if p x z xs false e h =
     (λ i. h ∙ sym (ap (λ b. (b || has xs z) && p z) i)) where
       same : (x y : ℕ) → (x == y) ≡ true → x ≡ y
       same x y i = grind (arith, nat_tests)
+
       none : (b : Bool) → b && false ≡ false
       none true = refl
       none false = refl
@@ -182,6 +184,7 @@ next_is_new (d ∷ ds) e rest r =
     none_of (d.0 == e.0) (has (keys_of ds) e.0) (below d.0 e.0 (in_front d.0 ds e rest r.0)) (next_is_new ds e rest r.1) where
       below : (x y : ℕ) → x < y → (x == y) ≡ false
       below x y h = grind (arith, nat_tests)
+
       in_front : (x : ℕ) (ds : List (ℕ × ℕ)) (e : ℕ × ℕ) (rest : List (ℕ × ℕ)) → Above x (keys_of (ds ++ e ∷ rest)) → x < e.0
       in_front x [] e rest a = a.0
       in_front x (d ∷ ds) e rest a = in_front x ds e rest a.1

@@ -62,11 +62,14 @@ join_wires_push n v (x ∷ zs) z y h =
     ∙ sym (ap (λ b. cond (z == y) (n + suc (length zs)) (cond b n (join_wires (n + 1) v zs y))) e)) where
       later : (n l : ℕ) → n + 1 + l ≡ n + suc l
       later n l = omega arith
+
       apart : (x z y : ℕ) → (x == z) ≡ false → (x == y) ≡ true → (z == y) ≡ false
       apart x z y h e = grind (arith, nat_tests)
+
       off_left : (a b : Bool) → a || b ≡ false → a ≡ false
       off_left true b h = cc
       off_left false b h = refl
+
       off_right : (a b : Bool) → a || b ≡ false → b ≡ false
       off_right true b h = cc
       off_right false b h = h
@@ -104,9 +107,11 @@ lookup_next (d ∷ ds) e rest h =
     ∙ lookup_next ds e rest (off_right (d.0 == e.0) (has (keys_of ds) e.0) h) where
       elsewhere : (k j : ℕ) → (j == k) ≡ false → is_at (nat_cmp k) j ≡ false
       elsewhere k j h = grind (arith, nat_tests)
+
       off_left : (a b : Bool) → a || b ≡ false → a ≡ false
       off_left true b h = cc
       off_left false b h = refl
+
       off_right : (a b : Bool) → a || b ≡ false → b ≡ false
       off_right true b h = cc
       off_right false b h = h
@@ -314,8 +319,8 @@ joining_goes_on old mid new wires now then cs after later other first_own left k
     let i = next_entry left wires j.done (k, u) rest o fit j.all in
     let at : slice_index now k ≡ slice_index wires k = j.wires_are k ∙ ap (λ b. cond b (join_wires old.next (wires_left first_own left wires) (joined_of first_own wires j.done) k) (slice_index wires k)) i.new_one in
     let p : JoinsWire mid new other (of_left left wires k) (slice_index wires k) first_own one.wire =
-      subst (λ v. JoinsWire mid new other v (slice_index wires k) first_own one.wire) (sym i.value)
-      (subst (λ v. JoinsWire mid new other u v first_own one.wire) at one.joins) in
+    subst (λ v. JoinsWire mid new other v (slice_index wires k) first_own one.wire) (sym i.value)
+    (subst (λ v. JoinsWire mid new other u v first_own one.wire) at one.joins) in
     let r = joined_one old mid new wires now cs after other first_own left (k, u) rest one.wire j i p in
     subst (λ l. JoinedSoFar old new wires then cs l other first_own left rest) (sym one.logged)
     (subst (λ l. JoinedSoFar old new wires l cs (after ++ record { variable = k; before = slice_index now k } ∷ []) other first_own left rest) (sym one.wires_are) r)

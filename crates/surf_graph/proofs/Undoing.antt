@@ -176,5 +176,5 @@ pub next_wire : (cs : List Change) (i : ℕ) (d : Change) (k w : ℕ) (wires : L
     → HasWires (take i cs) wires left → Updates nat_cmp left new k (Some w) → HasWires (take (i + 1) cs) wires new
 next_wire cs i d k w wires left new lt e f h u =
     let v : Updates nat_cmp left new (get_or cs i d).variable (Some (slice_index wires (get_or cs i d).variable)) =
-      subst (λ j. Updates nat_cmp left new j (Some (slice_index wires j))) e (subst (λ z. Updates nat_cmp left new k (Some z)) f u) in
+    subst (λ j. Updates nat_cmp left new j (Some (slice_index wires j))) e (subst (λ z. Updates nat_cmp left new k (Some z)) f u) in
     subst (λ l. HasWires l wires new) (sym (take_more cs i d lt)) (one_more_wire (take i cs) (get_or cs i d) wires left new h v)

@@ -144,7 +144,9 @@ pub fn join(
         changes.old.items changes.new.items other a xs ys) }
 {
     for (variable, wire) in left {
-        join_one(builder, variables, changes, other, first_own, *variable, *wire)?;
+        join_one(
+            builder, variables, changes, other, first_own, *variable, *wire,
+        )?;
     }
     Ok(())
 }
