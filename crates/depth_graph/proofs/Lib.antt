@@ -6,3 +6,5 @@ pub mod ResumeActive
 pub mod ResumeInside
 pub mod ResumeRests
 pub mod ResumeShows
+pub mod LeavesResume
+pub mod LoopsResume
