@@ -9,3 +9,5 @@ pub mod ResumeShows
 pub mod KindedResumes
 pub mod DomainResumes
 pub mod KindedResumingDomains
+pub mod LeavesResume
+pub mod LoopsResume

@@ -1,2 +1,3 @@
 pub mod SmallCopies
 pub mod definitions
+pub mod ResumesBuilt

@@ -1,5 +1,5 @@
 -- Two alternatives: what they tell, from what the one that ticks tells.
-use Rattle.std.proofs.Common.{◌≡◌, ℕ, suc, ◌+◌, ◌==◌, ℤ, Bool, true, false, ◌&&◌, ◌||◌, not, cond, List, [], ◌∷◌, ◌++◌, refl, sym, ap, ap₂, ◌∙◌, arith}
+use Rattle.std.proofs.Common.{◌≡◌, ℕ, suc, ◌+◌, ◌==◌, nat_lt, ℤ, Bool, true, false, ◌&&◌, ◌||◌, cond, List, [], ◌∷◌, ◌++◌, refl, sym, ap, ap₂, ◌∙◌, arith}
 use Rattle.std.proofs.lemmas.Bool.Decides.{nat_tests}
 use Rattle.std.proofs.Math.Path.{fun_ext}
 use Rattle.kernel_terms.specs.declared.tables.Tables.{Tables}
@@ -8,7 +8,7 @@ use Rattle.kernel_rules.specs.definitions.Signals.{Env}
 use Rattle.kernel_rules.specs.definitions.TickRule.{Tick, Ticks}
 use Rattle.std.specs.Int.{int_max}
 use Rattle.surf_graph.specs.definitions.Formulas.{Equation, Satisfies, is_on, told}
-use Rattle.surf_graph.specs.definitions.Copies.{Copy, Sets, below, from, joined, has, both_write, joins, join_wires, wires_by, alternatives}
+use Rattle.surf_graph.specs.definitions.Copies.{Copy, Sets, below, from, joined, has, put_once, both_write, joins, join_wires, wires_by, alternatives}
 use Rattle.surf_graph.specs.definitions.Tells.{Off, registers_set, Stands, Active, Quiet, Silent}
 use Rattle.surf_graph.proofs.SetValues.{off_joined, off_below, off_from, emitted_first, emitted_second}
 use Rattle.surf_graph.proofs.Parts.{by_cases, status_is}
@@ -30,30 +30,53 @@ has_append (x ∷ xs) ys y = ap (λ b. (x == y) || b) (has_append xs ys y) ∙ o
 same_name : (i j : ℕ) → (i == j) ≡ true → i ≡ j
 same_name i j g = grind (arith, nat_tests)
 
--- a variable that is listed once more adds nothing
-has_if : (q : List ℕ) (x y : ℕ) (xs : List ℕ) (w h : Bool) → has q x ≡ w → has xs x ≡ h → has (both_write xs q) y ≡ has xs y && has q y
-    → has (cond (w && not h) (x ∷ both_write xs q) (both_write xs q)) y ≡ ((x == y) || has xs y) && has q y
-has_if q x y xs true false ew eh i =
-    by_cases (x == y)
-    (λ e. ap (λ b. b || has (both_write xs q) y) e ∙ sym (ap (λ b. (b || has xs y) && has q y) e ∙ ap (has q) (sym (same_name x y e)) ∙ ew))
-    (λ e. ap (λ b. b || has (both_write xs q) y) e ∙ i ∙ sym (ap (λ b. (b || has xs y) && has q y) e))
-has_if q x y xs true true ew eh i =
-    by_cases (x == y)
-    (λ e. i ∙ ap (λ b. b && has q y) (ap (has xs) (sym (same_name x y e)) ∙ eh) ∙ sym (ap (λ b. (b || has xs y) && has q y) e))
-    (λ e. i ∙ sym (ap (λ b. (b || has xs y) && has q y) e))
-has_if q x y xs false h ew eh i =
+or_swap : (a b c : Bool) → a || (b || c) ≡ b || (a || c)
+or_swap true true c = refl
+or_swap true false c = refl
+or_swap false b c = refl
+
+or_twice : (a b : Bool) → a || (a || b) ≡ a || b
+or_twice true b = refl
+or_twice false b = refl
+
+has_either : (b : Bool) (xs ys : List ℕ) (y : ℕ) (h : Bool) → (b ≡ true → has xs y ≡ h) → (b ≡ false → has ys y ≡ h) → has (cond b xs ys) y ≡ h
+has_either true xs ys y h f g = f refl
+has_either false xs ys y h f g = g refl
+
+pub has_put_once : (x : ℕ) (zs : List ℕ) (y : ℕ) → has (put_once x zs) y ≡ (x == y) || has zs y
+has_put_once x [] y = refl
+has_put_once x (z ∷ zs) y =
+    has_either (nat_lt x z) (x ∷ (z ∷ zs)) (z ∷ cond (x == z) zs (put_once x zs)) y ((x == y) || ((z == y) || has zs y))
+    (λ e. refl)
+    (λ e. ap (λ b. (z == y) || b)
+    (has_either (x == z) zs (put_once x zs) y (cond (x == z) (has zs y) ((x == y) || has zs y)) (λ i. sym (ap (λ b. cond b (has zs y) ((x == y) || has zs y)) i)) (λ i. has_put_once x zs y ∙ sym (ap (λ b. cond b (has zs y) ((x == y) || has zs y)) i)))
+    ∙ joined_ors x z y (has zs y)) where
+      joined_ors : (x z y : ℕ) (h : Bool) → (z == y) || cond (x == z) h ((x == y) || h) ≡ (x == y) || ((z == y) || h)
+      joined_ors x z y h =
+          by_cases (x == z)
+          (λ i. ap (λ b. (z == y) || cond b h ((x == y) || h)) i ∙ sym (ap (λ k. (k == y) || ((z == y) || h)) (same_name x z i) ∙ or_twice (z == y) h))
+          (λ i. ap (λ b. (z == y) || cond b h ((x == y) || h)) i ∙ or_swap (z == y) (x == y) h)
+
+-- a variable is added where the other list has it too
+has_if : (q : List ℕ) (x y : ℕ) (zs : List ℕ) (h w : Bool) → has q x ≡ w → has zs y ≡ h && has q y → has (cond w (put_once x zs) zs) y ≡ ((x == y) || h) && has q y
+has_if q x y zs h true ew i =
+    has_put_once x zs y
+    ∙ by_cases (x == y)
+    (λ e. ap (λ b. b || has zs y) e ∙ sym (ap (λ b. (b || h) && has q y) e ∙ ap (has q) (sym (same_name x y e)) ∙ ew))
+    (λ e. ap (λ b. b || has zs y) e ∙ i ∙ sym (ap (λ b. (b || h) && has q y) e))
+has_if q x y zs h false ew i =
     by_cases (x == y)
     (λ e.
-    let no : has q y ≡ false = ap (has q) (sym (same_name x y e)) ∙ ew in
-    i ∙ ap (λ b. has xs y && b) no ∙ none_on (has xs y) ∙ sym (ap (λ b. (b || has xs y) && has q y) e ∙ no))
-    (λ e. i ∙ sym (ap (λ b. (b || has xs y) && has q y) e)) where
+    let lacks : has q y ≡ false = ap (has q) (sym (same_name x y e)) ∙ ew in
+    i ∙ ap (λ b. h && b) lacks ∙ none_on h ∙ sym (ap (λ b. (b || h) && has q y) e ∙ lacks))
+    (λ e. i ∙ sym (ap (λ b. (b || h) && has q y) e)) where
       none_on : (b : Bool) → b && false ≡ false
       none_on true = refl
       none_on false = refl
 
 pub has_both_write : (xs q : List ℕ) (y : ℕ) → has (both_write xs q) y ≡ has xs y && has q y
 has_both_write [] q y = refl
-has_both_write (x ∷ xs) q y = has_if q x y xs (has q x) (has xs x) refl refl (has_both_write xs q y)
+has_both_write (x ∷ xs) q y = has_if q x y (both_write xs q) (has xs y) (has q x) refl (has_both_write xs q y)
 
 -- what the wires after a choice tell
 

@@ -29,7 +29,7 @@ use Rattle.surf_graph.proofs.CopiesBuilt.{at_set, equal_if, count_added, bucket_
 abbrev guarded : Sets → Guarded
 guarded s = record { condition = s.condition; value = s.value }
 
-one_set : (first k : ℕ) (s : Sets) → own_sets first 1 (λ (j : ℕ). s ∷ []) k ≡ cond (k == first) (guarded s ∷ []) []
+pub one_set : (first k : ℕ) (s : Sets) → own_sets first 1 (λ (j : ℕ). s ∷ []) k ≡ cond (k == first) (guarded s ∷ []) []
 one_set first k s =
     by_cases (k == first)
     (λ e. sets_where first 1 k (λ (j : ℕ). s ∷ []) (guarded s ∷ []) (λ f. refl) (λ f. absurd (let x : ⊥ = grind (arith, nat_tests) in x)) ∙ ap (λ b. cond b (guarded s ∷ []) []) (sym e))

@@ -41,6 +41,9 @@ pub mod KindedStatuses
 pub mod KindedDomains
 pub mod KindedDomainOperations
 pub mod Adding
+pub mod Undoing
+pub mod IncreasingVariables
+pub mod JoinedVariables
 pub mod SpellingOut
 pub mod CopiesBuilt
 pub mod LeavesBuilt

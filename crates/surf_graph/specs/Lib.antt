@@ -1,4 +1,5 @@
 pub mod Building
+pub mod Variables
 pub mod Copying
 pub mod Framing
 pub mod PartSolutions

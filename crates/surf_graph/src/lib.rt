@@ -20,6 +20,7 @@ mod spelling;
 mod starting;
 mod starting_leaves;
 mod statuses;
+mod variables;
 mod wire_tables;
 
 pub use builder::{Builder, FIRST_FURTHER};
@@ -58,6 +59,7 @@ pub use spelling::{
 };
 pub use starting::start;
 pub use statuses::{add_combined, give_status, give_trap, give_weak_abort};
+pub use variables::{join, set_wire, undo};
 pub use wire_tables::WireTables;
 
 #[cfg(test)]

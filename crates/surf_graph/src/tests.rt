@@ -10,6 +10,7 @@ use crate::copy_builder::{CopyBuilder, Given, Guarded};
 use crate::expression::{test, value};
 use crate::starting::start;
 use crate::statuses::{add_combined, give_status, give_trap, give_weak_abort};
+use crate::variables::{join, set_wire, undo};
 use crate::wire_tables::WireTables;
 use java_values::{Kind, NoMemory, Op1, Op2};
 use kernel_terms::{Combine, Expr, ExprForm, Form, SigTest, Tables, Term};
@@ -333,5 +334,36 @@ fn parts_of_a_sequence_start_in_turn(rt: HostRuntime) -> Result<(), Fail> {
     );
     assert!(rt; is_only(&b.emits[0], 2, 54));
     assert!(rt; is_only(&b.sets[0], 62, 62));
+fn is_logged(changes: &[Change], at: usize, variable: u32, before: u32) -> bool {
+    match changes.get(at) {
+        Some(change) => change.variable == variable && change.before == before,
+        None => false,
+    }
+}
+
+// The first of two alternatives assigns variables 1, 0 and 1 again, and the second, whose own wires
+// begin with 20, variables 1 and 2.
+#[test]
+fn variables_of_two_alternatives(rt: HostRuntime) -> Result<(), Fail> {
+    let mut wires: Vec<u32> = vec![in rt.alloc(); 1, 2, 3, 4]?;
+    let mut changes: Vec<Change> = Vec::new(rt.alloc());
+    let mut builder = Builder::new(rt.alloc(), 30);
+    set_wire(&mut wires, &mut changes, 3, 9)?;
+    set_wire(&mut wires, &mut changes, 1, 10)?;
+    set_wire(&mut wires, &mut changes, 0, 11)?;
+    set_wire(&mut wires, &mut changes, 1, 12)?;
+    let left = undo(rt.alloc(), &mut wires, &mut changes, 1)?;
+    assert!(rt; &*wires == [1, 2, 3, 9].as_slice());
+    assert_eq!(rt; changes.len(), 1);
+    set_wire(&mut wires, &mut changes, 1, 20)?;
+    set_wire(&mut wires, &mut changes, 2, 21)?;
+    join(&mut builder, &mut wires, &mut changes, 5, &left, 20)?;
+    assert!(rt; &*wires == [11, 30, 21, 9].as_slice());
+    assert_eq!(rt; builder.next, 31);
+    assert_eq!(rt; builder.equations.len(), 1);
+    assert!(rt; is_at(&builder, 0, 30, Formula::Choose(5, 20, 12)));
+    assert_eq!(rt; changes.len(), 5);
+    assert!(rt; is_logged(&changes, 3, 0, 1));
+    assert!(rt; is_logged(&changes, 4, 1, 20));
     Ok(())
 }

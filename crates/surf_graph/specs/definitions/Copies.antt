@@ -1,5 +1,5 @@
 -- A copy of a statement, and how copies are put together. Wire 0 is always 0.
-use Rattle.std.specs.Prelude.{ℕ, ◌+◌, ◌==◌, nat_lt, pos, Bool, true, false, ◌&&◌, ◌||◌, not, cond, List, [], ◌∷◌, ◌++◌, length, Option, Some, None}
+use Rattle.std.specs.Prelude.{ℕ, ◌+◌, ◌==◌, nat_lt, pos, Bool, true, false, ◌&&◌, ◌||◌, cond, List, [], ◌∷◌, ◌++◌, length, Option, Some, None}
 use Rattle.kernel_terms.specs.declared.tables.Tables.{Tables}
 use Rattle.java_values.specs.declared.kind.Kind.{Kind}
 use Rattle.kernel_terms.specs.declared.tables.SignalInfo.{SignalInfo}
@@ -88,10 +88,16 @@ abbrev pub has : List ℕ → ℕ → Bool
 has [] y = false
 has (x ∷ xs) y = (x == y) || has xs y
 
--- those of the first list that are in the other too, without repeats
+-- an increasing list with this variable too
+abbrev pub put_once : ℕ → List ℕ → List ℕ
+put_once x [] = x ∷ []
+put_once x (y ∷ ys) =
+    cond (nat_lt x y) (x ∷ (y ∷ ys)) (y ∷ cond (x == y) ys (put_once x ys))
+
+-- those of the first list that are in the other too, in increasing order and each once
 abbrev pub both_write : List ℕ → List ℕ → List ℕ
 both_write [] ys = []
-both_write (x ∷ xs) ys = cond (has ys x && not (has xs x)) (x ∷ both_write xs ys) (both_write xs ys)
+both_write (x ∷ xs) ys = cond (has ys x) (put_once x (both_write xs ys)) (both_write xs ys)
 
 -- After two alternatives: one wire for each variable that both may assign, that of the second where `other` is on.
 abbrev pub joins : ℕ → ℕ → (ℕ → ℕ) → (ℕ → ℕ) → List ℕ → List Equation
