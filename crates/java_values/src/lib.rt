@@ -8,6 +8,7 @@ mod laws;
 mod no_memory;
 mod op;
 mod size;
+mod short_text;
 mod text;
 mod value;
 mod whole;
