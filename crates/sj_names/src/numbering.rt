@@ -245,7 +245,7 @@ fn form<'a>(
         }),
         Form::If { cond, yes, other } => {
             let cond = expression(alloc, names, cond)?;
-            let yes = block(alloc, names, yes)?;
+            let yes = Boxed::new(alloc, block(alloc, names, yes.get())?)?;
             let other = block_where_given(alloc, names, other)?;
             Ok(Form::If { cond, yes, other })
         }
@@ -255,7 +255,7 @@ fn form<'a>(
             other,
         } => {
             let test = test(alloc, names, tested)?;
-            let yes = block(alloc, names, yes)?;
+            let yes = Boxed::new(alloc, block(alloc, names, yes.get())?)?;
             let other = block_where_given(alloc, names, other)?;
             Ok(Form::Present { test, yes, other })
         }
@@ -353,14 +353,17 @@ fn form<'a>(
 fn block_where_given<'a>(
     alloc: Global,
     names: &mut Names<'a>,
-    given: &'a Option<Block<Name, Raw<Name>>>,
-) -> Result<Option<Block<u32, Raw<TableEntry>>>, NoMemory>
+    given: &'a Option<Boxed<Block<Name, Raw<Name>>>>,
+) -> Result<Option<Boxed<Block<u32, Raw<TableEntry>>>>, NoMemory>
     ensures value { IfOk result (λ o. o ≡ (numbered_other given.now (scope_of names.old)).value) }
     ensures scope { IfOk result (λ _. scope_of names.new ≡
         (numbered_other given.now (scope_of names.old)).scope) }
 {
     match given {
-        Some(given) => Ok(Some(block(alloc, names, given)?)),
+        Some(given) => Ok(Some(Boxed::new(
+            alloc,
+            block(alloc, names, given.get())?,
+        )?)),
         None => Ok(None),
     }
 }
