@@ -5,7 +5,7 @@ ghost use Rattle.java_types.specs.definitions.TypedTrees.{value_for, condition_o
 use crate::conversions::{condition, given, updated};
 use crate::expressions::expression;
 use crate::failure::{TypeError, TypeFailure};
-use crate::lists::{add, boxed_block};
+use crate::lists::{add, boxed_block, with_room};
 use crate::ports::{combination_failure, copied_signal};
 use crate::tables::{channel_kind, signal_kind, variable_kind};
 use crate::test_copies::copied;
@@ -116,9 +116,27 @@ fn statement(
     })
 }
 
+// Most statements have these forms. For the others there is more to set aside.
 #[cycle(typing)]
 #[tactic(auto, using(crate::proofs::CheckLemmas::checks))]
 fn form(
+    alloc: Global,
+    tables: &Tables,
+    form: &Form<u32, Raw<TableEntry>>,
+) -> Result<Form<u32, Expr>, TypeError>
+    ensures { MatchResult result (λ f. checked_form tables.now form.now ≡
+        fine f) (IsFirst (checked_form tables.now form.now)) }
+{
+    match form {
+        Form::Empty => Ok(Form::Empty),
+        Form::Pause => Ok(Form::Pause),
+        _ => larger_form(alloc, tables, form),
+    }
+}
+
+#[cycle(typing)]
+#[tactic(auto, using(crate::proofs::CheckLemmas::checks))]
+fn larger_form(
     alloc: Global,
     tables: &Tables,
     form: &Form<u32, Raw<TableEntry>>,
@@ -363,7 +381,7 @@ fn statements(
     ensures { MatchResult result (λ ss. all_checked (map (checked_stmt tables.now) statements.now) ≡
         fine ss) (IsFirst (all_checked (map (checked_stmt tables.now) statements.now))) }
 {
-    let mut typed = Vec::new(alloc);
+    let mut typed = with_room(alloc, statements.len())?;
     for part in statements {
         let part = statement(alloc, tables, part)?;
         add(&mut typed, part)?;

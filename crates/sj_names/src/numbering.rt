@@ -167,8 +167,26 @@ fn statement<'a>(
     })
 }
 
+// Most statements have these forms. For the others there is more to set aside.
 #[cycle(numbering)]
 fn form<'a>(
+    alloc: Global,
+    names: &mut Names<'a>,
+    form: &'a Form<Name, Raw<Name>>,
+) -> Result<Form<u32, Raw<TableEntry>>, NoMemory>
+    ensures value { IfOk result (λ f. f ≡ (numbered_form form.now (scope_of names.old)).value) }
+    ensures scope { IfOk result (λ _. scope_of names.new ≡
+        (numbered_form form.now (scope_of names.old)).scope) }
+{
+    match form {
+        Form::Empty => Ok(Form::Empty),
+        Form::Pause => Ok(Form::Pause),
+        _ => larger_form(alloc, names, form),
+    }
+}
+
+#[cycle(numbering)]
+fn larger_form<'a>(
     alloc: Global,
     names: &mut Names<'a>,
     form: &'a Form<Name, Raw<Name>>,
@@ -360,10 +378,7 @@ fn block_where_given<'a>(
         (numbered_other given.now (scope_of names.old)).scope) }
 {
     match given {
-        Some(given) => Ok(Some(Boxed::new(
-            alloc,
-            block(alloc, names, given.get())?,
-        )?)),
+        Some(given) => Ok(Some(Boxed::new(alloc, block(alloc, names, given.get())?)?)),
         None => Ok(None),
     }
 }
@@ -417,7 +432,7 @@ fn statements<'a>(
     ensures scope { IfOk result (λ _. scope_of names.new ≡
         (stmts_in_order (map numbered_stmt statements.now) (scope_of names.old)).scope) }
 {
-    let mut numbered = Vec::new(alloc);
+    let mut numbered = Vec::with_capacity(alloc, statements.len())?;
     for part in statements {
         numbered.push(statement(alloc, names, part)?)?;
     }
