@@ -53,7 +53,6 @@ fn after(bytes: &[u8], count: usize) -> &[u8]
 }
 
 // Puts the token of so many bytes behind the others.
-#[inline(always)]
 fn put(tokens: &mut Vec<Token>, class: Class, at: u32, count: usize) -> Result<usize, LexError>
     requires { at + count ≤ most_source_bytes }
     ensures { MatchResult result (λ n. (n ≡ count) × (tokens.new.items ≡

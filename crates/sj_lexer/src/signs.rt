@@ -98,7 +98,6 @@ fn after_greater(rest: &[u8]) -> Option<(Mark, usize)>
 }
 
 /// The mark and the length of the longest sign with which the bytes begin.
-#[inline(always)]
 pub fn longest_sign(bytes: &[u8]) -> Option<(Mark, usize)>
     ensures { result ≡ option_map (λ s. (s.mark, length s.text)) (longest_sign bytes.now) }
 {
