@@ -1,6 +1,10 @@
 ghost use Rattle.std.specs.Prelude.{◌≡◌, ◌++◌, ◌∷◌, [], IfOk};
 
 use java_values::NoMemory;
+use kernel_terms::Expr;
+use sj_ast::Block;
+use sqlite_items::Boxed;
+use std::alloc::Global;
 
 /// Adds a value behind those of a list.
 pub fn add<T: Drop>(list: &mut Vec<T>, value: T) -> Result<(), NoMemory>
@@ -8,4 +12,21 @@ pub fn add<T: Drop>(list: &mut Vec<T>, value: T) -> Result<(), NoMemory>
 {
     list.push(value)?;
     Ok(())
+}
+
+/// An empty list with room for so many values.
+pub fn with_room<T: Drop>(alloc: Global, count: usize) -> Result<Vec<T>, NoMemory>
+    ensures { IfOk result (λ list. list.items ≡ []) }
+{
+    Ok(Vec::with_capacity(alloc, count)?)
+}
+
+/// The block, in memory of its own.
+pub fn boxed_block(
+    alloc: Global,
+    block: Block<u32, Expr>,
+) -> Result<Boxed<Block<u32, Expr>>, NoMemory>
+    ensures { IfOk result (λ b. b ≡ block) }
+{
+    Ok(Boxed::new(alloc, block)?)
 }

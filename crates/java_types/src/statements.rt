@@ -5,7 +5,7 @@ ghost use Rattle.java_types.specs.definitions.TypedTrees.{value_for, condition_o
 use crate::conversions::{condition, given, updated};
 use crate::expressions::expression;
 use crate::failure::{TypeError, TypeFailure};
-use crate::lists::add;
+use crate::lists::{add, boxed_block, with_room};
 use crate::ports::{combination_failure, copied_signal};
 use crate::tables::{channel_kind, signal_kind, variable_kind};
 use crate::test_copies::copied;
@@ -13,7 +13,7 @@ use java_values::{Kind, Op2};
 use kernel_terms::{Expr, Tables};
 use sj_ast::{Block, Form, Raw, Signal, Stmt};
 use sj_names::TableEntry;
-use sqlite_items::Items;
+use sqlite_items::{Boxed, Items};
 use std::alloc::Global;
 
 /// The expression, given to something of the kind.
@@ -116,9 +116,27 @@ fn statement(
     })
 }
 
+// Most statements have these forms. For the others there is more to set aside.
 #[cycle(typing)]
 #[tactic(auto, using(crate::proofs::CheckLemmas::checks))]
 fn form(
+    alloc: Global,
+    tables: &Tables,
+    form: &Form<u32, Raw<TableEntry>>,
+) -> Result<Form<u32, Expr>, TypeError>
+    ensures { MatchResult result (λ f. checked_form tables.now form.now ≡
+        fine f) (IsFirst (checked_form tables.now form.now)) }
+{
+    match form {
+        Form::Empty => Ok(Form::Empty),
+        Form::Pause => Ok(Form::Pause),
+        _ => larger_form(alloc, tables, form),
+    }
+}
+
+#[cycle(typing)]
+#[tactic(auto, using(crate::proofs::CheckLemmas::checks))]
+fn larger_form(
     alloc: Global,
     tables: &Tables,
     form: &Form<u32, Raw<TableEntry>>,
@@ -202,13 +220,13 @@ fn form(
         }
         Form::If { cond, yes, other } => {
             let cond = condition_of(alloc, tables, cond)?;
-            let yes = block(alloc, tables, yes)?;
+            let yes = boxed_block(alloc, block(alloc, tables, yes.get())?)?;
             let other = other_block(alloc, tables, other)?;
             Ok(Form::If { cond, yes, other })
         }
         Form::Present { test, yes, other } => {
             let test = copied(alloc, test)?;
-            let yes = block(alloc, tables, yes)?;
+            let yes = boxed_block(alloc, block(alloc, tables, yes.get())?)?;
             let other = other_block(alloc, tables, other)?;
             Ok(Form::Present { test, yes, other })
         }
@@ -305,13 +323,16 @@ fn form(
 fn other_block(
     alloc: Global,
     tables: &Tables,
-    given: &Option<Block<u32, Raw<TableEntry>>>,
-) -> Result<Option<Block<u32, Expr>>, TypeError>
+    given: &Option<Boxed<Block<u32, Raw<TableEntry>>>>,
+) -> Result<Option<Boxed<Block<u32, Expr>>>, TypeError>
     ensures { MatchResult result (λ o. checked_other tables.now given.now ≡
         fine o) (IsFirst (checked_other tables.now given.now)) }
 {
     match given {
-        Some(given) => Ok(Some(block(alloc, tables, given)?)),
+        Some(given) => {
+            let given = block(alloc, tables, given.get())?;
+            Ok(Some(boxed_block(alloc, given)?))
+        }
         None => Ok(None),
     }
 }
@@ -360,7 +381,7 @@ fn statements(
     ensures { MatchResult result (λ ss. all_checked (map (checked_stmt tables.now) statements.now) ≡
         fine ss) (IsFirst (all_checked (map (checked_stmt tables.now) statements.now))) }
 {
-    let mut typed = Vec::new(alloc);
+    let mut typed = with_room(alloc, statements.len())?;
     for part in statements {
         let part = statement(alloc, tables, part)?;
         add(&mut typed, part)?;

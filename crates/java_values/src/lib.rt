@@ -7,6 +7,7 @@ mod kind;
 mod laws;
 mod no_memory;
 mod op;
+mod short_text;
 mod size;
 mod text;
 mod value;

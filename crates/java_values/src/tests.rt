@@ -16,6 +16,10 @@ fn value(kind: Kind, n: i64) -> Result<Value, Fail>
 fn a_text_keeps_its_bytes(rt: HostRuntime) -> Result<(), Fail> {
     let text = Text::new(rt.alloc(), b"A1")?;
     assert_eq!(rt; text.bytes(), b"A1".as_slice());
+    let longest_within = Text::new(rt.alloc(), b"abcdefghijklmn")?;
+    assert_eq!(rt; longest_within.bytes(), b"abcdefghijklmn".as_slice());
+    let beside = Text::new(rt.alloc(), b"abcdefghijklmno")?;
+    assert_eq!(rt; beside.bytes(), b"abcdefghijklmno".as_slice());
     Ok(())
 }
 

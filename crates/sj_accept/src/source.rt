@@ -76,10 +76,11 @@ pub fn read_tree(alloc: Global, source: &[u8]) -> Result<Tree<Name, Raw<Name>>, 
     requires { length source.now ≤ most_source_bytes }
     ensures { MatchResult result (IsParsed source.now) (IsWhyNot source.now) }
 {
-    let tokens = match lex(alloc, source) {
+    let mut tokens = match lex(alloc, source) {
         Ok(tokens) => tokens,
         Err(error) => return Err(lex_error(error)),
     };
+    tokens.shrink_to_fit();
     match parse(alloc, &tokens, source) {
         Ok(tree) => Ok(tree),
         Err(error) => Err(parse_error(error)),
@@ -109,10 +110,12 @@ pub fn accept(alloc: Global, source: &[u8]) -> Result<System, AcceptError>
         Ok(bound) => bound,
         Err(error) => return Err(name_error(error)),
     };
+    drop(tree);
     let typed = match typed(alloc, &bound) {
         Ok(typed) => typed,
         Err(error) => return Err(kind_error(error)),
     };
+    drop(bound);
     let Some(system) = system_of(alloc, typed)? else {
         return Err(AcceptError::Refused(Refusal::Later));
     };

@@ -122,7 +122,7 @@ pub fn block_term(alloc: Global, block: &Block<u32, Expr>) -> Result<Option<Term
     ensures term { IfOk result (λ o. IfSome o (IsTermOfBlock block.now)) }
 {
     let statements = block.statements.as_slice();
-    let mut terms = Vec::new(alloc);
+    let mut terms = Vec::with_capacity(alloc, statements.len())?;
     for i in 0..statements.len() {
         let statement = &statements[i];
         begins_with_item(statements, i, statement);

@@ -1,7 +1,7 @@
 use crate::port::{Port, Signal};
 use crate::test::Test;
 use java_values::{Kind, Op2};
-use sqlite_items::Items;
+use sqlite_items::{Boxed, Items};
 
 /// A program: its interface, and one block for each domain.
 #[derive(Debug, Drop)]
@@ -73,13 +73,13 @@ pub enum Form<N, E> {
     },
     If {
         cond: E,
-        yes: Block<N, E>,
-        other: Option<Block<N, E>>,
+        yes: Boxed<Block<N, E>>,
+        other: Option<Boxed<Block<N, E>>>,
     },
     Present {
         test: Test<N>,
-        yes: Block<N, E>,
-        other: Option<Block<N, E>>,
+        yes: Boxed<Block<N, E>>,
+        other: Option<Boxed<Block<N, E>>>,
     },
     /// `while (true)`
     While(Block<N, E>),

@@ -5,6 +5,7 @@ use crate::ends::number_at;
 use java_values::{Kind, NoMemory, Text};
 use kernel_terms::{Combine, SignalInfo, Sort, VariableInfo};
 use sj_ast::{Block, Combination, CombineOperator, Form, Name, Raw, Signal, Stmt, Valued};
+use sqlite_items::Boxed;
 use std::alloc::Global;
 
 fn operator_of(operator: CombineOperator) -> Combine
@@ -120,11 +121,11 @@ impl Declarations {
                 self.blocks(alloc, domain, others.as_slice())
             }
             Form::If { yes, other, .. } => {
-                self.block(alloc, domain, yes)?;
+                self.block(alloc, domain, yes.get())?;
                 self.other(alloc, domain, other)
             }
             Form::Present { yes, other, .. } => {
-                self.block(alloc, domain, yes)?;
+                self.block(alloc, domain, yes.get())?;
                 self.other(alloc, domain, other)
             }
             Form::While(body) => self.block(alloc, domain, body),
@@ -142,13 +143,13 @@ impl Declarations {
         &mut self,
         alloc: Global,
         domain: u32,
-        block: &Option<Block<Name, Raw<Name>>>,
+        block: &Option<Boxed<Block<Name, Raw<Name>>>>,
     ) -> Result<(), NoMemory>
         ensures { IfOk result (λ _. declared_in self.new ≡
             both (declared_in self.old) (declared_other domain block.now)) }
     {
         match block {
-            Some(block) => self.block(alloc, domain, block),
+            Some(block) => self.block(alloc, domain, block.get()),
             None => Ok(()),
         }
     }

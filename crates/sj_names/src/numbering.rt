@@ -167,8 +167,26 @@ fn statement<'a>(
     })
 }
 
+// Most statements have these forms. For the others there is more to set aside.
 #[cycle(numbering)]
 fn form<'a>(
+    alloc: Global,
+    names: &mut Names<'a>,
+    form: &'a Form<Name, Raw<Name>>,
+) -> Result<Form<u32, Raw<TableEntry>>, NoMemory>
+    ensures value { IfOk result (λ f. f ≡ (numbered_form form.now (scope_of names.old)).value) }
+    ensures scope { IfOk result (λ _. scope_of names.new ≡
+        (numbered_form form.now (scope_of names.old)).scope) }
+{
+    match form {
+        Form::Empty => Ok(Form::Empty),
+        Form::Pause => Ok(Form::Pause),
+        _ => larger_form(alloc, names, form),
+    }
+}
+
+#[cycle(numbering)]
+fn larger_form<'a>(
     alloc: Global,
     names: &mut Names<'a>,
     form: &'a Form<Name, Raw<Name>>,
@@ -245,7 +263,7 @@ fn form<'a>(
         }),
         Form::If { cond, yes, other } => {
             let cond = expression(alloc, names, cond)?;
-            let yes = block(alloc, names, yes)?;
+            let yes = Boxed::new(alloc, block(alloc, names, yes.get())?)?;
             let other = block_where_given(alloc, names, other)?;
             Ok(Form::If { cond, yes, other })
         }
@@ -255,7 +273,7 @@ fn form<'a>(
             other,
         } => {
             let test = test(alloc, names, tested)?;
-            let yes = block(alloc, names, yes)?;
+            let yes = Boxed::new(alloc, block(alloc, names, yes.get())?)?;
             let other = block_where_given(alloc, names, other)?;
             Ok(Form::Present { test, yes, other })
         }
@@ -353,14 +371,14 @@ fn form<'a>(
 fn block_where_given<'a>(
     alloc: Global,
     names: &mut Names<'a>,
-    given: &'a Option<Block<Name, Raw<Name>>>,
-) -> Result<Option<Block<u32, Raw<TableEntry>>>, NoMemory>
+    given: &'a Option<Boxed<Block<Name, Raw<Name>>>>,
+) -> Result<Option<Boxed<Block<u32, Raw<TableEntry>>>>, NoMemory>
     ensures value { IfOk result (λ o. o ≡ (numbered_other given.now (scope_of names.old)).value) }
     ensures scope { IfOk result (λ _. scope_of names.new ≡
         (numbered_other given.now (scope_of names.old)).scope) }
 {
     match given {
-        Some(given) => Ok(Some(block(alloc, names, given)?)),
+        Some(given) => Ok(Some(Boxed::new(alloc, block(alloc, names, given.get())?)?)),
         None => Ok(None),
     }
 }
@@ -414,7 +432,7 @@ fn statements<'a>(
     ensures scope { IfOk result (λ _. scope_of names.new ≡
         (stmts_in_order (map numbered_stmt statements.now) (scope_of names.old)).scope) }
 {
-    let mut numbered = Vec::new(alloc);
+    let mut numbered = Vec::with_capacity(alloc, statements.len())?;
     for part in statements {
         numbered.push(statement(alloc, names, part)?)?;
     }

@@ -6,6 +6,7 @@ use crate::mention::{Mention, NameSort, Role};
 use crate::names::Names;
 use java_values::NoMemory;
 use sj_ast::{Block, Direction, Form, Name, Port, Raw, Stmt, Test};
+use sqlite_items::Boxed;
 
 /// The names of a tree that were read, and those that are visible.
 #[derive(Drop)]
@@ -104,12 +105,12 @@ impl<'a> Reader<'a> {
             }
             Form::If { cond, yes, other } => {
                 self.expression(cond)?;
-                self.block(yes)?;
+                self.block(yes.get())?;
                 self.other(other)
             }
             Form::Present { test, yes, other } => {
                 self.test(test)?;
-                self.block(yes)?;
+                self.block(yes.get())?;
                 self.other(other)
             }
             Form::While(body) => self.block(body),
@@ -147,12 +148,12 @@ impl<'a> Reader<'a> {
     }
 
     #[cycle(statements)]
-    fn other(&mut self, block: &'a Option<Block<Name, Raw<Name>>>) -> Result<(), NoMemory>
+    fn other(&mut self, block: &'a Option<Boxed<Block<Name, Raw<Name>>>>) -> Result<(), NoMemory>
         ensures { IfOk result (λ _. told_of self.new ≡
             behind (told_of self.old) (other_part block.now)) }
     {
         match block {
-            Some(block) => self.block(block),
+            Some(block) => self.block(block.get()),
             None => Ok(()),
         }
     }

@@ -4,7 +4,7 @@ use java_values::{Kind, Text, Value};
 use sj_ast::{
     Block, ChannelPort, Direction, Form, Name, Port, Raw, Signal, SignalPort, Stmt, Test, Tree,
 };
-use sqlite_items::Items;
+use sqlite_items::{Boxed, Items};
 use std::alloc::{AllocError, Global};
 use std::test::Fail;
 
@@ -188,7 +188,7 @@ fn the_test_of_each_form_is_read(rt: HostRuntime) -> Result<(), Fail> {
     let alloc = rt.alloc();
     let present = Form::Present {
         test: test_of_a(alloc)?,
-        yes: empty(alloc),
+        yes: Boxed::new(alloc, empty(alloc))?,
         other: None,
     };
     assert_eq!(rt; failure_of(alloc, present)?, unknown(7));

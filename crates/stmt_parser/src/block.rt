@@ -10,7 +10,7 @@ ghost use Rattle.expr_parser.specs.Reading.{IsFirst, FailsAt};
 ghost use Rattle.stmt_parser.specs.Reading.{tail_of, is_start, is_form, begins_statement, ReadsForm, ReadsStmt, ReadsInside, ReadsBraces, FailsBraces, ReadsOther, ReadsOthers, is_between, Skips};
 
 use crate::leaf::{assign, await_test, emit, exit, kinded, local_signal, receive, send, still};
-use crate::make::{add_block, add_statement, block_at, guarded_form, placed};
+use crate::make::{add_block, add_statement, block_at, boxed_block, guarded_form, placed};
 use crate::pieces::{expect, read_named};
 use crate::values::{Guard, read_guard, read_parens, read_test_parens, read_true};
 use expr_parser::expression::MOST_OPEN;
@@ -19,7 +19,7 @@ use expr_parser::read::{Read, Stop};
 use sj_ast::{Block, Form, Name, Raw, Stmt};
 use sj_grammar::{Start, start_of};
 use sj_lexer::{Class, Mark, Token, Word};
-use sqlite_items::Items;
+use sqlite_items::{Boxed, Items};
 use std::alloc::Global;
 
 fn is_start(start: Start) -> bool
@@ -95,6 +95,29 @@ pub fn braces<'a>(
             value: block_at(&open.value, read.value),
             rest: read.rest,
         }),
+        Err(stop) => Err(stop),
+    }
+}
+
+/// A block in braces, in memory of its own.
+#[cycle(statements)]
+fn boxed_braces<'a>(
+    alloc: Global,
+    source: &[u8],
+    tokens: &'a [Token],
+    depth: u32,
+) -> Result<Read<'a, Boxed<Block<Name, Raw<Name>>>>, Stop<'a>>
+    ensures { MatchResult result (λ r. ReadsBraces source.now tokens.now depth r.value r.rest.now)
+        (λ s. FailsBraces tokens.now depth s) }
+{
+    match braces(alloc, source, tokens, depth) {
+        Ok(read) => match boxed_block(alloc, read.value) {
+            Ok(value) => Ok(Read {
+                value,
+                rest: read.rest,
+            }),
+            Err(_) => Err(Stop::NoMemory),
+        },
         Err(stop) => Err(stop),
     }
 }
@@ -247,7 +270,7 @@ fn branch<'a>(
         r.value r.rest.now) (λ s. FailsAt (tail_of start.If) rest.now depth 0 s) }
 {
     match read_parens(alloc, source, rest, depth) {
-        Ok(cond) => match braces(alloc, source, cond.rest, depth) {
+        Ok(cond) => match boxed_braces(alloc, source, cond.rest, depth) {
             Ok(yes) => match other(alloc, source, yes.rest, depth) {
                 Ok(last) => Ok(Read {
                     value: placed(
@@ -282,7 +305,7 @@ fn present<'a>(
         r.value r.rest.now) (λ s. FailsAt (tail_of start.Present) rest.now depth 0 s) }
 {
     match read_test_parens(alloc, source, rest, depth) {
-        Ok(guard) => match braces(alloc, source, guard.rest, depth) {
+        Ok(guard) => match boxed_braces(alloc, source, guard.rest, depth) {
             Ok(yes) => match other(alloc, source, yes.rest, depth) {
                 Ok(last) => Ok(Read {
                     value: placed(
@@ -474,7 +497,7 @@ fn other<'a>(
     source: &[u8],
     tokens: &'a [Token],
     depth: u32,
-) -> Result<Read<'a, Option<Block<Name, Raw<Name>>>>, Stop<'a>>
+) -> Result<Read<'a, Option<Boxed<Block<Name, Raw<Name>>>>>, Stop<'a>>
     ensures { MatchResult result (λ r. ReadsOther source.now tokens.now depth r.value r.rest.now)
         (λ s. FailsAt (ElsePart ∷ []) tokens.now depth 0 s) }
 {
@@ -484,7 +507,7 @@ fn other<'a>(
             rest: tokens,
         });
     };
-    match braces(alloc, source, keyword.rest, depth) {
+    match boxed_braces(alloc, source, keyword.rest, depth) {
         Ok(read) => Ok(Read {
             value: Some(read.value),
             rest: read.rest,

@@ -1,11 +1,12 @@
-ghost use Rattle.std.specs.Prelude.{◌≡◌, true, ◌++◌, ◌∷◌, []};
+ghost use Rattle.std.specs.Prelude.{◌≡◌, true, ◌++◌, ◌∷◌, [], IfOk};
 ghost use Rattle.sj_ast.specs.declared.statement.Form as form;
 ghost use Rattle.sj_grammar.specs.definitions.Trees.{placed, still_form, emission_form, assign_form, guarded_form, block_at};
 
-use java_values::Op2;
+use java_values::{NoMemory, Op2};
 use sj_ast::{Block, Form, Name, Raw, Stmt, Test};
 use sj_lexer::{Class, Token, Word};
-use sqlite_items::Items;
+use sqlite_items::{Boxed, Items};
+use std::alloc::Global;
 
 /// The statement that begins with this token.
 pub fn placed(first: &Token, form: Form<Name, Raw<Name>>) -> Stmt<Name, Raw<Name>>
@@ -25,6 +26,16 @@ pub fn block_at(open: &Token, statements: Vec<Stmt<Name, Raw<Name>>>) -> Block<N
         at: open.start,
         statements: Items::from_vec(statements),
     }
+}
+
+/// The block, in memory of its own.
+pub fn boxed_block(
+    alloc: Global,
+    block: Block<Name, Raw<Name>>,
+) -> Result<Boxed<Block<Name, Raw<Name>>>, NoMemory>
+    ensures { IfOk result (λ b. b ≡ block) }
+{
+    Ok(Boxed::new(alloc, block)?)
 }
 
 /// `pause` or `halt`.
