@@ -8,7 +8,7 @@ use Rattle.kernel_terms.specs.declared.system.System.{System}
 use Rattle.kernel_terms.specs.Systems.{tables_of}
 use Rattle.kernel_terms.specs.TableEntries.{channel_at}
 use Rattle.kernel_rules.specs.definitions.Signals.{put_at}
-use Rattle.kernel_rules.specs.definitions.LegalTick.{DomainState}
+use Rattle.kernel_rules.specs.definitions.LegalTick.{DomainState, Inputs}
 use Rattle.tick_log.specs.declared.history.JoinRow.{JoinRow}
 use Rattle.tick_log.specs.definitions.Runs.{Entry, RunState, history_of, join_of, join_count}
 use Rattle.cell_core.specs.declared.moves.Side.{Side}
@@ -24,13 +24,12 @@ use Rattle.domain_core.specs.definitions.step.Domains.{DomainView, ends_of, stat
 use Rattle.domain_core.specs.definitions.step.Steps.{Waits, WaitsAs, IsAsk}
 use Rattle.domain_core.specs.definitions.runs.Stamps.{stamp_of_join}
 use Rattle.domain_core.specs.step.Answers.{with_answers, end_done, side_done}
-use Rattle.domain_core.specs.definitions.runs.Systems.{BothWait, SystemState, JoinRecord, Move, MakesJoin, JoinStep, IsSystem, sender_of, receiver_of, domain_count, channel_count}
+use Rattle.domain_core.specs.definitions.runs.Systems.{BothWait, SystemState, JoinRecord, Move, MakesJoin, JoinStep, IsSystem, sender_of, receiver_of, domain_count, channel_count, setup_of}
 use Rattle.domain_core.specs.definitions.runs.LegalRuns.{record_of}
 use Rattle.domain_core.specs.definitions.runs.Scheduled.{JoinsInTurn, TakesTurns, TellsFrom, IsScheduledRun}
 use Rattle.domain_core.specs.runs.StampsByStep.{StampsFrom, stamp_by_step}
 use Rattle.domain_core.proofs.lemmas.runs.StatesBetweenTicks.{put_here, put_apart, put_cases}
 use Rattle.gals_core.specs.Channels.{ChannelsState, cell_in, history_in, ticks_in, link_at, row_in}
-use Rattle.gals_core.specs.Setups.{order_setup}
 use Rattle.gals_core.specs.RunsOverCells.{domain_at, IsInCells, own_side, found_state, found_stamp, RunBeginsWith, EndsIn}
 use Rattle.domain_core.proofs.lemmas.step.OwnEnds.{own_end, rises}
 use Rattle.gals_core.proofs.OwnDomains.{domain_is}
@@ -40,17 +39,17 @@ use Rattle.gals_core.proofs.ChannelOffers.{Meets}
 use Rattle.gals_core.proofs.FacingEnds.{is_domain, across, two_sides, found_same, in_cells_same, faces, taken_more, joined_domains, joined_side, joined_other, raised_two, raised_side, raised_other, sends_joined, other_value, join_stamps, offer_kept}
 
 -- the turn of a domain after its tick: what its offers did
-pub record TurnOf (system : System) (d : ℕ) (view : ℕ → DomainView) (old new : ChannelsState) (after : DomainState) (asks : List (Option ℤ)) (replies : List (Option Joined)) (stamp : ℕ) : Type 0 where
-  pub within : d < domain_count (order_setup system)
-  pub sys : IsSystem (order_setup system)
-  pub links : (c : ℕ) → c < channel_count (order_setup system) → ((link_at old.links c).sender ≡ (channel_at (tables_of system) c).sender) × ((link_at old.links c).receiver ≡ (channel_at (tables_of system) c).receiver)
+pub record TurnOf (system : System) (inputs : Inputs) (d : ℕ) (view : ℕ → DomainView) (old new : ChannelsState) (after : DomainState) (asks : List (Option ℤ)) (replies : List (Option Joined)) (stamp : ℕ) : Type 0 where
+  pub within : d < domain_count (setup_of system inputs)
+  pub sys : IsSystem (setup_of system inputs)
+  pub links : (c : ℕ) → c < channel_count (setup_of system inputs) → ((link_at old.links c).sender ≡ (channel_at (tables_of system) c).sender) × ((link_at old.links c).receiver ≡ (channel_at (tables_of system) c).receiver)
   pub my_ticks : ticks_in old d ≡ after.ticks
-  pub their_ticks : (e : ℕ) → e < domain_count (order_setup system) → e ≢ d → ticks_in old e ≡ tick_count_of (view e)
+  pub their_ticks : (e : ℕ) → e < domain_count (setup_of system inputs) → e ≢ d → ticks_in old e ≡ tick_count_of (view e)
   pub offered : Offered (ends_of (tables_of system) d) asks stamp replies (length (ends_of (tables_of system) d)) old new
   pub asked : (n : ℕ) → n < length (ends_of (tables_of system) d) → IsAsk (end_at (ends_of (tables_of system) d) n) after.statement (get_or asks n None)
 
 -- the channels below c are done, and with them the first n ends; `left` channels are to come
-pub record Stage (system : System) (turns rest : List ℕ) (d : ℕ) (view : ℕ → DomainView) (old new : ChannelsState) (after : DomainState) (replies : List (Option Joined)) (stamp : ℕ) (entries : ℕ → List Entry) (top c n left : ℕ) : Type 0 where
+pub record Stage (system : System) (inputs : Inputs) (turns rest : List ℕ) (d : ℕ) (view : ℕ → DomainView) (old new : ChannelsState) (after : DomainState) (replies : List (Option Joined)) (stamp : ℕ) (entries : ℕ → List Entry) (top c n left : ℕ) : Type 0 where
   pub s : SystemState
   pub t : ℕ → ℕ
   pub j : ℕ → ℕ
@@ -58,7 +57,7 @@ pub record Stage (system : System) (turns rest : List ℕ) (d : ℕ) (view : ℕ
   pub since : ℕ → ℕ
   pub cell : ℕ → CellState
   pub rows : ℕ → List JoinRow
-  pub sum : c + left ≡ channel_count (order_setup system)
+  pub sum : c + left ≡ channel_count (setup_of system inputs)
   pub ends_within : n ≤ length (ends_of (tables_of system) d)
   pub before : (k : ℕ) → k < n → (end_at (ends_of (tables_of system) d) k).channel < c
   pub beyond : (k : ℕ) → n ≤ k → k < length (ends_of (tables_of system) d) → c ≤ (end_at (ends_of (tables_of system) d) k).channel
@@ -66,20 +65,20 @@ pub record Stage (system : System) (turns rest : List ℕ) (d : ℕ) (view : ℕ
   pub cells_left : (k : ℕ) → c ≤ k → cell k ≡ cell_in old k
   pub rows_done : (k : ℕ) → k < c → rows k ≡ (history_in new k).rows
   pub rows_left : (k : ℕ) → c ≤ k → rows k ≡ (history_in old k).rows
-  pub others : (e : ℕ) → e < domain_count (order_setup system) → e ≢ d → IsInCells system e cell (view e)
+  pub others : (e : ℕ) → e < domain_count (setup_of system inputs) → e ≢ d → IsInCells system e cell (view e)
   pub mine : s.domain d ≡ with_answers (ends_of (tables_of system) d) replies n after
-  pub theirs : (e : ℕ) → e < domain_count (order_setup system) → e ≢ d → s.domain e ≡ found_state system e cell (view e)
+  pub theirs : (e : ℕ) → e < domain_count (setup_of system inputs) → e ≢ d → s.domain e ≡ found_state system e cell (view e)
   pub t_is : (e : ℕ) → t e ≡ length (entries e)
   pub j_is : (k : ℕ) → j k ≡ length (rows k)
   pub last_mine : last d ≡ stamp
-  pub last_theirs : (e : ℕ) → e < domain_count (order_setup system) → e ≢ d → last e ≡ (view e).stamp
+  pub last_theirs : (e : ℕ) → e < domain_count (setup_of system inputs) → e ≢ d → last e ≡ (view e).stamp
   pub since_mine : since d ≡ raised replies n stamp
-  pub since_theirs : (e : ℕ) → e < domain_count (order_setup system) → e ≢ d → since e ≡ found_stamp system e cell (view e)
-  pub low_last : (e : ℕ) → e < domain_count (order_setup system) → last e ≤ suc top
-  pub low_since : (e : ℕ) → e < domain_count (order_setup system) → since e ≤ suc (suc top)
-  pub completes : (r : RunState) (joins : List Move) (mid : SystemState) (moves : List Move) (end : SystemState) → RunBeginsWith r entries rows → JoinsInTurn (order_setup system) d c left s joins mid →
-      TakesTurns (order_setup system) mid rest moves end → TellsFrom r t j (joins ++ moves) → StampsFrom (order_setup system) r t j last since (joins ++ moves) → EndsIn (order_setup system) r end →
-      IsScheduledRun (order_setup system) r turns end
+  pub since_theirs : (e : ℕ) → e < domain_count (setup_of system inputs) → e ≢ d → since e ≡ found_stamp system e cell (view e)
+  pub low_last : (e : ℕ) → e < domain_count (setup_of system inputs) → last e ≤ suc top
+  pub low_since : (e : ℕ) → e < domain_count (setup_of system inputs) → since e ≤ suc (suc top)
+  pub completes : (r : RunState) (joins : List Move) (mid : SystemState) (moves : List Move) (end : SystemState) → RunBeginsWith r entries rows → JoinsInTurn (setup_of system inputs) d c left s joins mid →
+      TakesTurns (setup_of system inputs) mid rest moves end → TellsFrom r t j (joins ++ moves) → StampsFrom (setup_of system inputs) r t j last since (joins ++ moves) → EndsIn (setup_of system inputs) r end →
+      IsScheduledRun (setup_of system inputs) r turns end
 
 -- where the rows are the same
 pub begins_same : (r : RunState) (entries : ℕ → List Entry) (rows new : ℕ → List JoinRow) → ((c : ℕ) → new c ≡ rows c) → RunBeginsWith r entries new → RunBeginsWith r entries rows
@@ -132,17 +131,17 @@ put_done f new c h k less = elim (put_cases f c (new c) k) [ inl (e, q) ↦ q �
 put_left : {X : Type 0} (f : ℕ → X) (old : ℕ → X) (c : ℕ) (x : X) → ((k : ℕ) → c ≤ k → f k ≡ old k) → (k : ℕ) → suc c ≤ k → put_at f c x k ≡ old k
 put_left f old c x h k more = put_apart f c x k (λ q. omega (arith, more, q)) ∙ h k (omega (arith, more))
 
-module _ (system : System) (turns rest : List ℕ) (d : ℕ) (view : ℕ → DomainView) (old new : ChannelsState) (after : DomainState) (asks : List (Option ℤ)) (replies : List (Option Joined)) (stamp : ℕ) (entries : ℕ → List Entry) (top : ℕ)
-    (turn : TurnOf system d view old new after asks replies stamp) where
+module _ (system : System) (inputs : Inputs) (turns rest : List ℕ) (d : ℕ) (view : ℕ → DomainView) (old new : ChannelsState) (after : DomainState) (asks : List (Option ℤ)) (replies : List (Option Joined)) (stamp : ℕ) (entries : ℕ → List Entry) (top : ℕ)
+    (turn : TurnOf system inputs d view old new after asks replies stamp) where
   abbrev At : ℕ → ℕ → ℕ → Type 0
-  At c n left = Stage system turns rest d view old new after replies stamp entries top c n left
+  At c n left = Stage system inputs turns rest d view old new after replies stamp entries top c n left
 
   -- no join at the channel
   pub skip : (c n m left : ℕ) (x : At c n (suc left)) → n ≤ m → m ≤ length (ends_of (tables_of system) d) →
       ((k : ℕ) → k < m → (end_at (ends_of (tables_of system) d) k).channel < suc c) → ((k : ℕ) → m ≤ k → k < length (ends_of (tables_of system) d) → suc c ≤ (end_at (ends_of (tables_of system) d) k).channel) →
       (with_answers (ends_of (tables_of system) d) replies m after ≡ with_answers (ends_of (tables_of system) d) replies n after) → (raised replies m stamp ≡ raised replies n stamp) →
       ((b : Side) → domain_at (tables_of system) b c ≢ d → standing_at b (cell_in new c) ≡ standing_at b (cell_in old c)) → ((history_in new c).rows ≡ (history_in old c).rows) →
-      (((sender_of (order_setup system) c ≡ d) ⊎ (receiver_of (order_setup system) c ≡ d)) → (v : ℤ) → BothWait (order_setup system) x.s c v → ⊥) → At (suc c) m left
+      (((sender_of (setup_of system inputs) c ≡ d) ⊎ (receiver_of (setup_of system inputs) c ≡ d)) → (v : ℤ) → BothWait (setup_of system inputs) x.s c v → ⊥) → At (suc c) m left
   skip c n m left x more within below above same_state same_stamp same_side same_rows idle =
       let cell' = put_at x.cell c (cell_in new c) in
       let rows' = put_at x.rows c ((history_in new c).rows) in
@@ -196,7 +195,7 @@ module _ (system : System) (turns rest : List ℕ) (d : ℕ) (view : ℕ → Dom
       Meets (end_at (ends_of (tables_of system) d) n) (get_or asks n None) stamp old new (get_or replies n None) → At (suc c) (suc n) left
   join c n left x less at h =
       let ends = ends_of (tables_of system) d in
-      let p = order_setup system in
+      let p = setup_of system inputs in
       let tables = tables_of system in
       let e = end_at ends n in
       let a = e.side in
@@ -204,10 +203,10 @@ module _ (system : System) (turns rest : List ℕ) (d : ℕ) (view : ℕ → Dom
       let in_range : c < channel_count p = omega (arith, x.sum) in
       let own : domain_at tables a c ≡ d = ap (domain_at tables a) (sym at) ∙ domain_is tables d e (own_end tables d n less) in
       let o = domain_at tables b c in
-      let o_within : o < domain_count p = is_domain system c turn.sys in_range b in
-      let o_other : o ≢ d = λ q. across system c turn.sys in_range a (q ∙ sym own) in
+      let o_within : o < domain_count p = is_domain system inputs c turn.sys in_range b in
+      let o_other : o ≢ d = λ q. across system inputs c turn.sys in_range a (q ∙ sym own) in
       let open_is : standing_at b (x.cell c) ≡ Open h.theirs h.their_stamp = ap (standing_at b) (x.cells_left c (omega arith) ∙ ap (cell_in old) (sym at)) ∙ h.was_open in
-      let f = faces system b c x.cell h.theirs h.their_stamp (view o) turn.sys in_range (x.others o o_within o_other) open_is in
+      let f = faces system inputs b c x.cell h.theirs h.their_stamp (view o) turn.sys in_range (x.others o o_within o_other) open_is in
       let j1 = cells.join_of a h.mine stamp h.theirs h.their_stamp in
       let j2 = cells.join_of b h.theirs h.their_stamp h.mine stamp in
       let v = sent_value a h.mine h.theirs in
@@ -227,7 +226,7 @@ module _ (system : System) (turns rest : List ℕ) (d : ℕ) (view : ℕ → Dom
       (subst (λ z. WaitsAs a z h.mine (with_answers ends replies n after).statement) at
       (still_waits ends replies n after e h.mine (λ k l. inl (λ q. omega (arith, x.before k l, q, at))) asked))) in
       let waits_theirs : WaitsAs b c f.value (x.s.domain o).statement = subst (λ z. WaitsAs b c f.value z.statement) (sym (x.theirs o o_within o_other)) f.waits in
-      let both : BothWait p x.s c v = sends_joined system x.s c a h.mine h.theirs f.value waits_mine waits_theirs f.own_value in
+      let both : BothWait p x.s c v = sends_joined system inputs x.s c a h.mine h.theirs f.value waits_mine waits_theirs f.own_value in
       let ticks_of : (k : ℕ) → k < domain_count p → ticks_in old k ≡ (x.s.domain k).ticks = λ k l. elim (cases_eq k d) [
         | inl q ↦ ap (ticks_in old) q ∙ turn.my_ticks ∙ sym (answers_ticks ends replies n after) ∙ ap (λ z. z.ticks) (sym x.mine) ∙ ap (λ z. (x.s.domain z).ticks) (sym q)
         | inr ne ↦
@@ -242,16 +241,16 @@ module _ (system : System) (turns rest : List ℕ) (d : ℕ) (view : ℕ → Dom
         next = refl;
       } in
       let stamp_is : stamp_by_step p x.last c ≡ stamp_of_join j1 =
-      join_stamps system c a x.last stamp h.their_stamp (ap x.last own ∙ x.last_mine) (x.last_theirs o o_within o_other ∙ sym f.stamp) in
+      join_stamps system inputs c a x.last stamp h.their_stamp (ap x.last own ∙ x.last_mine) (x.last_theirs o o_within o_other ∙ sym f.stamp) in
       let js = stamp_by_step p x.last c in
       let since' = raised_two p c js x.since in
       let mine_done : s'.domain d ≡ with_answers ends replies (suc n) after =
-      subst (λ z. s'.domain z ≡ side_done a c v (x.s.domain z)) own (joined_side system c v x.s.domain turn.sys in_range a)
+      subst (λ z. s'.domain z ≡ side_done a c v (x.s.domain z)) own (joined_side system inputs c v x.s.domain turn.sys in_range a)
       ∙ ap (side_done a c v) x.mine
       ∙ ap (λ z. side_done a z v (with_answers ends replies n after)) (sym at)
       ∙ ap (λ z. end_done e z (with_answers ends replies n after)) (sym h.reply_is) in
       let since_done : since' d ≡ raised replies (suc n) stamp =
-      subst (λ z. since' z ≡ max (x.since z) js) own (raised_side system c js x.since turn.sys in_range a)
+      subst (λ z. since' z ≡ max (x.since z) js) own (raised_side system inputs c js x.since turn.sys in_range a)
       ∙ ap (λ z. max z js) x.since_mine
       ∙ ap (max (raised replies n stamp)) stamp_is
       ∙ ap (λ z. raised_by z (raised replies n stamp)) (sym h.reply_is) in
@@ -307,12 +306,12 @@ module _ (system : System) (turns rest : List ℕ) (d : ℕ) (view : ℕ → Dom
         theirs = λ k l nd. elim (cases_eq k o) [
           | inl q ↦
               let there : s'.domain o ≡ found_state system o cell' (view o) =
-              joined_side system c v x.s.domain turn.sys in_range b
+              joined_side system inputs c v x.s.domain turn.sys in_range b
               ∙ ap (side_done b c v) (x.theirs o o_within o_other)
               ∙ ap (λ z. side_done b c z (found_state system o x.cell (view o))) (sym (other_value a h.mine h.theirs stamp h.their_stamp))
               ∙ sym more.0 in
               subst (λ z. s'.domain z ≡ found_state system z cell' (view z)) (sym q) there
-          | inr nq ↦ joined_other system c v x.s.domain k (apart_from k nd nq Sender) (apart_from k nd nq Receiver) ∙ x.theirs k l nd ∙ sym (found_same system k x.cell cell' (view k) (kept k nd nq)).0
+          | inr nq ↦ joined_other system inputs c v x.s.domain k (apart_from k nd nq Sender) (apart_from k nd nq Receiver) ∙ x.theirs k l nd ∙ sym (found_same system k x.cell cell' (view k) (kept k nd nq)).0
         ];
         t_is = x.t_is;
         j_is = λ k. elim (cases_eq k c) [
@@ -327,18 +326,18 @@ module _ (system : System) (turns rest : List ℕ) (d : ℕ) (view : ℕ → Dom
         since_theirs = λ k l nd. elim (cases_eq k o) [
           | inl q ↦
               let there : since' o ≡ found_stamp system o cell' (view o) =
-              raised_side system c js x.since turn.sys in_range b ∙ ap (λ z. max z js) (x.since_theirs o o_within o_other) ∙ ap (max (found_stamp system o x.cell (view o))) stamps_equal ∙ sym more.1 in
+              raised_side system inputs c js x.since turn.sys in_range b ∙ ap (λ z. max z js) (x.since_theirs o o_within o_other) ∙ ap (max (found_stamp system o x.cell (view o))) stamps_equal ∙ sym more.1 in
               subst (λ z. since' z ≡ found_stamp system z cell' (view z)) (sym q) there
-          | inr nq ↦ raised_other system c js x.since k (apart_from k nd nq Sender) (apart_from k nd nq Receiver) ∙ x.since_theirs k l nd ∙ sym (found_same system k x.cell cell' (view k) (kept k nd nq)).1
+          | inr nq ↦ raised_other system inputs c js x.since k (apart_from k nd nq Sender) (apart_from k nd nq Receiver) ∙ x.since_theirs k l nd ∙ sym (found_same system k x.cell cell' (view k) (kept k nd nq)).1
         ];
         low_last = x.low_last;
         low_since = λ k l.
             let js_low : js ≤ suc (suc top) = omega (arith, x.low_last (sender_of p c) (turn.sys.sender c in_range), x.low_last (receiver_of p c) (turn.sys.receiver c in_range)) in
             elim (cases_eq k (sender_of p c)) [
-              | inl q ↦ omega (arith, ap since' q, raised_side system c js x.since turn.sys in_range Sender, ap x.since q, x.low_since k l, js_low)
+              | inl q ↦ omega (arith, ap since' q, raised_side system inputs c js x.since turn.sys in_range Sender, ap x.since q, x.low_since k l, js_low)
               | inr ns ↦ elim (cases_eq k (receiver_of p c)) [
-                | inl q ↦ omega (arith, ap since' q, raised_side system c js x.since turn.sys in_range Receiver, ap x.since q, x.low_since k l, js_low)
-                | inr nr ↦ omega (arith, raised_other system c js x.since k ns nr, x.low_since k l)
+                | inl q ↦ omega (arith, ap since' q, raised_side system inputs c js x.since turn.sys in_range Receiver, ap x.since q, x.low_since k l, js_low)
+                | inr nr ↦ omega (arith, raised_other system inputs c js x.since k ns nr, x.low_since k l)
               ]
             ];
         completes = λ r joins mid moves end bw jit turned tells stamps marks.
@@ -350,6 +349,6 @@ module _ (system : System) (turns rest : List ℕ) (d : ℕ) (view : ℕ → Dom
             (next.stands, ap record_of next.is, tells) (ap (λ z. z.stamp) next.is ∙ sym stamp_is, stamps) marks;
       }
     where
-      owner : (a : Side) → domain_at (tables_of system) a c ≡ d → (sender_of (order_setup system) c ≡ d) ⊎ (receiver_of (order_setup system) c ≡ d)
+      owner : (a : Side) → domain_at (tables_of system) a c ≡ d → (sender_of (setup_of system inputs) c ≡ d) ⊎ (receiver_of (setup_of system inputs) c ≡ d)
       owner Sender q = inl q
       owner Receiver q = inr q

@@ -6,7 +6,7 @@ use Rattle.kernel_terms.specs.declared.system.System.{System}
 use Rattle.kernel_terms.specs.Systems.{tables_of}
 use Rattle.kernel_terms.specs.TableEntries.{channel_at}
 use Rattle.kernel_rules.specs.definitions.Signals.{put_at}
-use Rattle.kernel_rules.specs.definitions.LegalTick.{DomainState}
+use Rattle.kernel_rules.specs.definitions.LegalTick.{DomainState, Inputs}
 use Rattle.cell_core.specs.declared.moves.Side.{Side}
 use Rattle.cell_core.specs.declared.moves.Side.TheVariants.{Sender, Receiver}
 use Rattle.cell_core.specs.declared.moves.Joined.{Joined}
@@ -19,12 +19,11 @@ use Rattle.domain_core.specs.definitions.step.Domains.{DomainView, ends_of, stat
 use Rattle.domain_core.specs.definitions.step.Steps.{Waits, WaitsAs, IsWaitingOffer}
 use Rattle.domain_core.specs.definitions.runs.Stamps.{stamp_of_join}
 use Rattle.domain_core.specs.step.Answers.{side_done, end_done, newest_of}
-use Rattle.domain_core.specs.definitions.runs.Systems.{BothWait, Setup, SystemState, IsSystem, WaitsToSend, with_found, only, sender_of, receiver_of, domain_count, channel_count}
+use Rattle.domain_core.specs.definitions.runs.Systems.{BothWait, Setup, SystemState, IsSystem, WaitsToSend, with_found, only, sender_of, receiver_of, domain_count, channel_count, setup_of}
 use Rattle.domain_core.specs.runs.StampsByStep.{stamp_by_step}
 use Rattle.domain_core.specs.runs.StampsByStep as scheduled
 use Rattle.domain_core.proofs.lemmas.runs.StatesBetweenTicks.{put_here, put_apart}
 use Rattle.domain_core.proofs.lemmas.step.AnswersFound.{one_sent, one_got}
-use Rattle.gals_core.specs.Setups.{order_setup}
 use Rattle.gals_core.specs.RunsOverCells.{domain_at, IsInCells, own_side, pending, found_state, found_stamp}
 use Rattle.domain_core.proofs.lemmas.step.StateJoins.{ends_apart}
 use Rattle.domain_core.proofs.lemmas.step.OwnEnds.{IsOwn, EndAt, has_side}
@@ -32,17 +31,17 @@ use Rattle.gals_core.proofs.EndAnswerLemmas.{OneMore, answers_same, raised_same,
 use Rattle.gals_core.proofs.ChannelOffers.{pending_at, stands_so}
 
 -- the sides of a channel are two different domains
-pub own_of : (system : System) (c : ℕ) → IsSystem (order_setup system) → c < channel_count (order_setup system) → (b : Side) → IsOwn (domain_at (tables_of system) b c) b (channel_at (tables_of system) c)
-own_of system c sys less Sender = refl
-own_of system c sys less Receiver = (sys.apart c less, refl)
+pub own_of : (system : System) (inputs : Inputs) (c : ℕ) → IsSystem (setup_of system inputs) → c < channel_count (setup_of system inputs) → (b : Side) → IsOwn (domain_at (tables_of system) b c) b (channel_at (tables_of system) c)
+own_of system inputs c sys less Sender = refl
+own_of system inputs c sys less Receiver = (sys.apart c less, refl)
 
-pub is_domain : (system : System) (c : ℕ) → IsSystem (order_setup system) → c < channel_count (order_setup system) → (b : Side) → domain_at (tables_of system) b c < domain_count (order_setup system)
-is_domain system c sys less Sender = sys.sender c less
-is_domain system c sys less Receiver = sys.receiver c less
+pub is_domain : (system : System) (inputs : Inputs) (c : ℕ) → IsSystem (setup_of system inputs) → c < channel_count (setup_of system inputs) → (b : Side) → domain_at (tables_of system) b c < domain_count (setup_of system inputs)
+is_domain system inputs c sys less Sender = sys.sender c less
+is_domain system inputs c sys less Receiver = sys.receiver c less
 
-pub across : (system : System) (c : ℕ) → IsSystem (order_setup system) → c < channel_count (order_setup system) → (b : Side) → domain_at (tables_of system) (other b) c ≢ domain_at (tables_of system) b c
-across system c sys less Sender = λ q. sys.apart c less (sym q)
-across system c sys less Receiver = sys.apart c less
+pub across : (system : System) (inputs : Inputs) (c : ℕ) → IsSystem (setup_of system inputs) → c < channel_count (setup_of system inputs) → (b : Side) → domain_at (tables_of system) (other b) c ≢ domain_at (tables_of system) b c
+across system inputs c sys less Sender = λ q. sys.apart c less (sym q)
+across system inputs c sys less Receiver = sys.apart c less
 
 -- one of the two sides
 pub two_sides : (a b : Side) → (b ≡ a) ⊎ (b ≡ other a)
@@ -85,12 +84,12 @@ pub record Faces (system : System) (b : Side) (c : ℕ) (cell : ℕ → CellStat
   pub own_value : IsOwnValue b value (offered_value b w)
   pub stamp : t ≡ v.stamp
 
-pub faces : (system : System) (b : Side) (c : ℕ) (cell : ℕ → CellState) (w : ℤ) (t : ℕ) (v : DomainView) → IsSystem (order_setup system) → c < channel_count (order_setup system) →
+pub faces : (system : System) (inputs : Inputs) (b : Side) (c : ℕ) (cell : ℕ → CellState) (w : ℤ) (t : ℕ) (v : DomainView) → IsSystem (setup_of system inputs) → c < channel_count (setup_of system inputs) →
     IsInCells system (domain_at (tables_of system) b c) cell v → standing_at b (cell c) ≡ Open w t → Faces system b c cell w t v
-faces system b c cell w t v sys less h open_is =
+faces system inputs b c cell w t v sys less h open_is =
     let e = domain_at (tables_of system) b c in
     let ends = ends_of (tables_of system) e in
-    let x = has_side (tables_of system) e c b less (own_of system c sys less b) in
+    let x = has_side (tables_of system) e c b less (own_of system inputs c sys less b) in
     let here : standing_at (end_at ends x.place).side (cell (end_at ends x.place).channel) ≡ Open w t = ap (λ z. standing_at z.side (cell z.channel)) x.is ∙ open_is in
     let no : get_or (pending cell ends) x.place None ≡ None = pending_at cell ends x.place x.within ∙ ap recall_reply here in
     let st : get_or v.standing x.place false ≡ true = stands_so system e cell v h x.place x.within ∙ ap stands here in
@@ -142,68 +141,68 @@ with_join p c v domain d = with_found p.tables d (only c v) (domain d)
 abbrev pub joined_domains : Setup → ℕ → ℤ → (ℕ → DomainState) → ℕ → DomainState
 joined_domains p c v domain = put_at (put_at domain (sender_of p c) (with_join p c v domain (sender_of p c))) (receiver_of p c) (with_join p c v domain (receiver_of p c))
 
-pub joined_side : (system : System) (c : ℕ) (v : ℤ) (domain : ℕ → DomainState) → IsSystem (order_setup system) → c < channel_count (order_setup system) → (b : Side) →
-    joined_domains (order_setup system) c v domain (domain_at (tables_of system) b c) ≡ side_done b c v (domain (domain_at (tables_of system) b c))
-joined_side system c v domain sys less Sender =
-    let p = order_setup system in
+pub joined_side : (system : System) (inputs : Inputs) (c : ℕ) (v : ℤ) (domain : ℕ → DomainState) → IsSystem (setup_of system inputs) → c < channel_count (setup_of system inputs) → (b : Side) →
+    joined_domains (setup_of system inputs) c v domain (domain_at (tables_of system) b c) ≡ side_done b c v (domain (domain_at (tables_of system) b c))
+joined_side system inputs c v domain sys less Sender =
+    let p = setup_of system inputs in
     let d = sender_of p c in
     let mid = put_at domain d (with_join p c v domain d) in
     put_apart mid (receiver_of p c) (with_join p c v domain (receiver_of p c)) d (sys.apart c less)
     ∙ put_here domain d (with_join p c v domain d)
     ∙ sym (one_sent (tables_of system) d sys.apart (domain d) c v less refl)
-joined_side system c v domain sys less Receiver =
-    let p = order_setup system in
+joined_side system inputs c v domain sys less Receiver =
+    let p = setup_of system inputs in
     let d = receiver_of p c in
     put_here (put_at domain (sender_of p c) (with_join p c v domain (sender_of p c))) d (with_join p c v domain d)
     ∙ sym (one_got (tables_of system) d sys.apart (domain d) c v (sys.apart c less) refl)
 
-pub joined_other : (system : System) (c : ℕ) (v : ℤ) (domain : ℕ → DomainState) (x : ℕ) → x ≢ domain_at (tables_of system) Sender c → x ≢ domain_at (tables_of system) Receiver c →
-    joined_domains (order_setup system) c v domain x ≡ domain x
-joined_other system c v domain x ns nr =
-    let p = order_setup system in
+pub joined_other : (system : System) (inputs : Inputs) (c : ℕ) (v : ℤ) (domain : ℕ → DomainState) (x : ℕ) → x ≢ domain_at (tables_of system) Sender c → x ≢ domain_at (tables_of system) Receiver c →
+    joined_domains (setup_of system inputs) c v domain x ≡ domain x
+joined_other system inputs c v domain x ns nr =
+    let p = setup_of system inputs in
     put_apart (put_at domain (sender_of p c) (with_join p c v domain (sender_of p c))) (receiver_of p c) (with_join p c v domain (receiver_of p c)) x nr
     ∙ put_apart domain (sender_of p c) (with_join p c v domain (sender_of p c)) x ns
 
 abbrev pub raised_two : Setup → ℕ → ℕ → (ℕ → ℕ) → ℕ → ℕ
 raised_two p c s f = scheduled.raised_at (scheduled.raised_at f (sender_of p c) s) (receiver_of p c) s
 
-pub raised_side : (system : System) (c s : ℕ) (f : ℕ → ℕ) → IsSystem (order_setup system) → c < channel_count (order_setup system) → (b : Side) →
-    raised_two (order_setup system) c s f (domain_at (tables_of system) b c) ≡ max (f (domain_at (tables_of system) b c)) s
-raised_side system c s f sys less Sender =
-    let p = order_setup system in
+pub raised_side : (system : System) (inputs : Inputs) (c s : ℕ) (f : ℕ → ℕ) → IsSystem (setup_of system inputs) → c < channel_count (setup_of system inputs) → (b : Side) →
+    raised_two (setup_of system inputs) c s f (domain_at (tables_of system) b c) ≡ max (f (domain_at (tables_of system) b c)) s
+raised_side system inputs c s f sys less Sender =
+    let p = setup_of system inputs in
     let mid = scheduled.raised_at f (sender_of p c) s in
     put_apart mid (receiver_of p c) (max (mid (receiver_of p c)) s) (sender_of p c) (sys.apart c less) ∙ put_here f (sender_of p c) (max (f (sender_of p c)) s)
-raised_side system c s f sys less Receiver =
-    let p = order_setup system in
+raised_side system inputs c s f sys less Receiver =
+    let p = setup_of system inputs in
     let mid = scheduled.raised_at f (sender_of p c) s in
     put_here mid (receiver_of p c) (max (mid (receiver_of p c)) s) ∙ ap (λ z. max z s) (put_apart f (sender_of p c) (max (f (sender_of p c)) s) (receiver_of p c) (λ q. sys.apart c less (sym q)))
 
-pub raised_other : (system : System) (c s : ℕ) (f : ℕ → ℕ) (x : ℕ) → x ≢ domain_at (tables_of system) Sender c → x ≢ domain_at (tables_of system) Receiver c → raised_two (order_setup system) c s f x ≡ f x
-raised_other system c s f x ns nr =
-    let p = order_setup system in
+pub raised_other : (system : System) (inputs : Inputs) (c s : ℕ) (f : ℕ → ℕ) (x : ℕ) → x ≢ domain_at (tables_of system) Sender c → x ≢ domain_at (tables_of system) Receiver c → raised_two (setup_of system inputs) c s f x ≡ f x
+raised_other system inputs c s f x ns nr =
+    let p = setup_of system inputs in
     let mid = scheduled.raised_at f (sender_of p c) s in
     put_apart mid (receiver_of p c) (max (mid (receiver_of p c)) s) x nr ∙ put_apart f (sender_of p c) (max (f (sender_of p c)) s) x ns
 
 -- both ends wait where each does
-pub side_waits : (system : System) (s : SystemState) (c : ℕ) (v : ℤ) → BothWait (order_setup system) s c v → (b : Side) → (value : ℤ) × WaitsAs b c value (s.domain (domain_at (tables_of system) b c)).statement
-side_waits system s c v h Sender = (v, h.sends)
-side_waits system s c v h Receiver = (pos 0, (h.receives, refl))
+pub side_waits : (system : System) (inputs : Inputs) (s : SystemState) (c : ℕ) (v : ℤ) → BothWait (setup_of system inputs) s c v → (b : Side) → (value : ℤ) × WaitsAs b c value (s.domain (domain_at (tables_of system) b c)).statement
+side_waits system inputs s c v h Sender = (v, h.sends)
+side_waits system inputs s c v h Receiver = (pos 0, (h.receives, refl))
 
 -- what the sides say of a join, seen from one of them
-pub sends_joined : (system : System) (s : SystemState) (c : ℕ) (a : Side) (mine theirs value : ℤ) → WaitsAs a c mine (s.domain (domain_at (tables_of system) a c)).statement →
+pub sends_joined : (system : System) (inputs : Inputs) (s : SystemState) (c : ℕ) (a : Side) (mine theirs value : ℤ) → WaitsAs a c mine (s.domain (domain_at (tables_of system) a c)).statement →
     WaitsAs (other a) c value (s.domain (domain_at (tables_of system) (other a) c)).statement → IsOwnValue (other a) value (offered_value (other a) theirs) →
-    BothWait (order_setup system) s c (sent_value a mine theirs)
-sends_joined system s c Sender mine theirs value h k o = record { sends = h; receives = k.0 }
-sends_joined system s c Receiver mine theirs value h k o = record { sends = subst (λ z. WaitsToSend c z (s.domain (sender_of (order_setup system) c)).statement) (sym o) k; receives = h.0 }
+    BothWait (setup_of system inputs) s c (sent_value a mine theirs)
+sends_joined system inputs s c Sender mine theirs value h k o = record { sends = h; receives = k.0 }
+sends_joined system inputs s c Receiver mine theirs value h k o = record { sends = subst (λ z. WaitsToSend c z (s.domain (sender_of (setup_of system inputs) c)).statement) (sym o) k; receives = h.0 }
 
 pub other_value : (a : Side) (mine theirs : ℤ) (s t : ℕ) → (join_of (other a) theirs t mine s).value ≡ sent_value a mine theirs
 other_value Sender mine theirs s t = refl
 other_value Receiver mine theirs s t = refl
 
-pub join_stamps : (system : System) (c : ℕ) (a : Side) (last : ℕ → ℕ) (s t : ℕ) → last (domain_at (tables_of system) a c) ≡ s → last (domain_at (tables_of system) (other a) c) ≡ t →
-    stamp_by_step (order_setup system) last c ≡ suc (max s t)
-join_stamps system c Sender last s t h k = omega (arith, h, k)
-join_stamps system c Receiver last s t h k = omega (arith, h, k)
+pub join_stamps : (system : System) (inputs : Inputs) (c : ℕ) (a : Side) (last : ℕ → ℕ) (s t : ℕ) → last (domain_at (tables_of system) a c) ≡ s → last (domain_at (tables_of system) (other a) c) ≡ t →
+    stamp_by_step (setup_of system inputs) last c ≡ suc (max s t)
+join_stamps system inputs c Sender last s t h k = omega (arith, h, k)
+join_stamps system inputs c Receiver last s t h k = omega (arith, h, k)
 
 pub offer_kept : (b : Side) (w v : ℤ) (s t : ℕ) → standing_offer b (Taken (join_of b w t v s)) ≡ standing_offer b (Open w t)
 offer_kept Sender w v s t = refl

@@ -8,7 +8,7 @@ use Rattle.kernel_terms.specs.declared.system.System.{System}
 use Rattle.kernel_terms.specs.Systems.{tables_of}
 use Rattle.kernel_terms.specs.TableEntries.{channel_at, interface_of}
 use Rattle.kernel_terms.specs.Marks.{Mark, Going, Ended, is_over}
-use Rattle.kernel_rules.specs.definitions.LegalTick.{no_inputs}
+use Rattle.kernel_rules.specs.definitions.LegalTick.{Inputs}
 use Rattle.tick_log.specs.definitions.RunText.{interface_signals}
 use Rattle.tick_log.specs.definitions.Fits.{IsEntry, most_ticks}
 use Rattle.cell_core.specs.declared.moves.Side.{Side}
@@ -19,8 +19,7 @@ use Rattle.domain_core.specs.definitions.step.EndCalls.{end_at}
 use Rattle.domain_core.specs.step.Answers.{raised}
 use Rattle.domain_core.specs.definitions.step.Domains.{DomainView, ends_of, ends_in, tables_in, tick_count_of, state_of}
 use Rattle.domain_core.specs.definitions.step.Steps.{StandsAs, IsWaitingOffer, FitsEnd, LeavesEnd, IsStep}
-use Rattle.gals_core.specs.Setups.{order_setup}
-use Rattle.domain_core.specs.definitions.runs.Systems.{domain_count, channel_count}
+use Rattle.domain_core.specs.definitions.runs.Systems.{domain_count, channel_count, setup_of}
 use Rattle.domain_core.specs.definitions.runs.Scheduled.{turns_of}
 use Rattle.gals_core.specs.Channels.{ChannelsState, Moves, cell_in, history_in, ticks_in, link_at, end_view}
 use Rattle.gals_core.specs.RunsOverCells.{IsInCells, own_side, StandsFor}
@@ -34,14 +33,14 @@ use Rattle.gals_core.proofs.RunTurns.{skip_turn, made, turn_done}
 use Rattle.gals_core.proofs.HistoryRooms.{same_memory, few_rows}
 use Rattle.gals_core.proofs.TurnEntryLemmas.{entries_fit, rows_fit}
 
-module _ (system : System) (turns rest : List ℕ) (d : ℕ) (views : List DomainView) (b : ChannelsState) (k : IsBetweenTurns system turns (d ∷ rest) views b) where
+module _ (system : System) (inputs : Inputs) (turns rest : List ℕ) (d : ℕ) (views : List DomainView) (b : ChannelsState) (k : IsBetweenTurns system inputs turns (d ∷ rest) views b) where
   abbrev v : DomainView
   v = view_at system views d
 
   abbrev E : List EndOf
   E = ends_at system d
 
-  pub within : d < domain_count (order_setup system)
+  pub within : d < domain_count (setup_of system inputs)
   within = k.turns_within 0 (omega arith)
 
   pub in_views : d < length views
@@ -81,7 +80,7 @@ module _ (system : System) (turns rest : List ℕ) (d : ℕ) (views : List Domai
   ends_are : ends_in v ≡ E
   ends_are = at_own v system d view_in.of_system view_in.of_domain (λ y x. ends_in v ≡ ends_of (tables_of y) x) refl
 
-  pub skipped : is_over v.log.mark ≡ true → IsBetweenTurns system turns rest views b
+  pub skipped : is_over v.log.mark ≡ true → IsBetweenTurns system inputs turns rest views b
   skipped h =
       record {
         is_system = k.is_system;
@@ -97,7 +96,7 @@ module _ (system : System) (turns rest : List ℕ) (d : ℕ) (views : List Domai
         ticks = k.ticks;
         lists = k.lists;
         rooms = λ c l. omega (arith, k.rooms c l, never_more (channel_at (tables_of system) c).sender, never_more (channel_at (tables_of system) c).receiver);
-        stands = skip_turn system turns rest d (view_at system views) (cell_in b) (λ c. (history_in b c).rows) within h k.stands;
+        stands = skip_turn system inputs turns rest d (view_at system views) (cell_in b) (λ c. (history_in b c).rows) within h k.stands;
         fits = k.fits;
       }
 
@@ -132,7 +131,7 @@ module _ (system : System) (turns rest : List ℕ) (d : ℕ) (views : List Domai
         };
       }
 
-  begins : Begins system d (view_at system views) begun
+  begins : Begins system inputs d (view_at system views) begun
   begins = record {
     within = within;
     sys = k.is_system;
@@ -141,7 +140,7 @@ module _ (system : System) (turns rest : List ℕ) (d : ℕ) (views : List Domai
     their_ticks = λ e l ne. get_or-set_other b.ticks d e (get_or b.ticks d 0 + 1) 0 ne ∙ k.ticks e l;
   }
 
-  few_ticks : (e : ℕ) → e < domain_count (order_setup system) → ticks_in begun e ≤ most_ticks
+  few_ticks : (e : ℕ) → e < domain_count (setup_of system inputs) → ticks_in begun e ≤ most_ticks
   few_ticks e l = elim (cases_eq e d) [
     | inl q ↦ subst (λ z. ticks_in begun z ≤ most_ticks) (sym q) (omega (arith, begins.my_ticks, k.limit d within, mine_less))
     | inr ne ↦ omega (arith, begins.their_ticks e l ne, k.limit e l)
@@ -150,7 +149,7 @@ module _ (system : System) (turns rest : List ℕ) (d : ℕ) (views : List Domai
   few_turns : 2 * length turns ≤ 2 ^ 62
   few_turns = omega (arith, k.few)
 
-  module _ (after : ChannelsState) (new : DomainView) (result : Stepped) (i : IsStep Moves no_inputs begun after v new result) (leaves : (n : ℕ) → n < length (ends_in v) → LeavesEnd new n (end_view begun n) (end_view after n)) where
+  module _ (after : ChannelsState) (new : DomainView) (result : Stepped) (i : IsStep Moves inputs begun after v new result) (leaves : (n : ℕ) → n < length (ends_in v) → LeavesEnd new n (end_view begun n) (end_view after n)) where
     abbrev views' : List DomainView
     views' = set views d new
 
@@ -160,11 +159,11 @@ module _ (system : System) (turns rest : List ℕ) (d : ℕ) (views : List Domai
     there : (e : ℕ) → e ≢ d → view_at system views' e ≡ view_at system views e
     there e ne = get_or-set_other views d e new (no_domain system) ne
 
-    step : IsStep Moves no_inputs begun after v (view_at system views' d) result
-    step = subst (λ z. IsStep Moves no_inputs begun after v z result) (sym here) i
+    step : IsStep Moves inputs begun after v (view_at system views' d) result
+    step = subst (λ z. IsStep Moves inputs begun after v z result) (sym here) i
 
-    x : OwnStep system d v (view_at system views' d) begun after
-    x = made system turns rest d (view_at system views) (view_at system views') begun after begins own_ends k.stands few_turns result step
+    x : OwnStep system inputs d v (view_at system views' d) begun after
+    x = made system inputs turns rest d (view_at system views) (view_at system views') begun after begins own_ends k.stands few_turns result step
 
     new_ends : ends_in (view_at system views' d) ≡ E
     new_ends = at_own (view_at system views' d) system d x.of_system x.of_domain (λ y z. ends_in (view_at system views' d) ≡ ends_of (tables_of y) z) refl
@@ -178,7 +177,7 @@ module _ (system : System) (turns rest : List ℕ) (d : ℕ) (views : List Domai
         subst (λ z. StandsAs (view_at system views' d) n (own_side (cell_in after) (end_at z n))) (after_ends ∙ sym new_ends)
         (subst (λ z. StandsAs z n (own_side (cell_in after) (end_at after.ends n))) (sym here) (leaves n l).stands)
 
-    grown : (c : ℕ) → c < channel_count (order_setup system) → (side : Side) → IsOwn d side (channel_at (tables_of system) c) → length (history_in after c).rows ≤ length (history_in b c).rows + 1
+    grown : (c : ℕ) → c < channel_count (setup_of system inputs) → (side : Side) → IsOwn d side (channel_at (tables_of system) c) → length (history_in after c).rows ≤ length (history_in b c).rows + 1
     grown c l side own =
         let f = has_side (tables_of system) d c side l own in
         let at : (end_at E f.place).channel ≡ c = ap (λ z. z.channel) f.is in
@@ -198,18 +197,18 @@ module _ (system : System) (turns rest : List ℕ) (d : ℕ) (views : List Domai
         let far : (n : ℕ) → n < length E → c ≢ (end_at E n).channel = λ n l q. let y = own_end (tables_of system) d n l in none (end_at E n).side (subst (λ z. IsOwn d (end_at E n).side (channel_at (tables_of system) z)) (sym q) y.own) in
         omega (arith, ap length (x.offered.other_rows c far), ap length (x.recalled.rows c))
 
-    stand : StandsFor system turns rest (view_at system views') (cell_in after) (λ c. (history_in after c).rows)
-    stand = turn_done system turns rest d (view_at system views) (view_at system views') begun after begins own_ends k.stands few_turns result step there left
+    stand : StandsFor system inputs turns rest (view_at system views') (cell_in after) (λ c. (history_in after c).rows)
+    stand = turn_done system inputs turns rest d (view_at system views) (view_at system views') begun after begins own_ends k.stands few_turns result step there left
 
     low : raised x.replies (length E) x.stamp < 2 ^ 62
     low =
-        let since = (after_step system d v (view_at system views' d) begun after view_in x left).since in
+        let since = (after_step system inputs d v (view_at system views' d) begun after view_in x left).since in
         omega (arith, since, stand.since_is d within, stand.low d within, k.few)
 
     count : tick_count_of (view_at system views' d) ≡ tick_count_of v + 1
     count = ap length x.entries ∙ length-append v.log.entries (record { stamp = x.stamp; statuses = x.statuses } ∷ [])
 
-    fit : FitSoFar system views' after
+    fit : FitSoFar system inputs views' after
     fit = record {
       signals = λ e l. elim (cases_eq e d) [
         | inl q ↦ subst (λ z. (view_at system views' z).log.signals ≡ length (interface_of (tables_of system) z)) (sym q) (x.signals ∙ k.fits.signals d within)
@@ -218,17 +217,17 @@ module _ (system : System) (turns rest : List ℕ) (d : ℕ) (views : List Domai
       entries = λ e l. elim (cases_eq e d) [
         | inl q ↦
             subst (λ z. All (IsEntry (interface_signals (tables_of system) z)) (view_at system views' z).log.entries) (sym q)
-            (entries_fit system d v (view_at system views' d) begun after x (k.fits.entries d within))
+            (entries_fit system inputs d v (view_at system views' d) begun after x (k.fits.entries d within))
         | inr ne ↦ subst (λ z. All (IsEntry (interface_signals (tables_of system) e)) z.log.entries) (sym (there e ne)) (k.fits.entries e l)
       ];
       marks = λ e l over. elim (cases_eq e d) [
         | inl q ↦ omega (arith, ap (λ z. tick_count_of (view_at system views' z)) q, count)
         | inr ne ↦ omega (arith, ap tick_count_of (there e ne), k.fits.marks e l (ap (λ z. is_over z.log.mark) (sym (there e ne)) ∙ over))
       ];
-      rows = λ c l. rows_fit system d v (view_at system views' d) begun after x k.is_system k.links few_ticks low c l (k.fits.rows c l);
+      rows = λ c l. rows_fit system inputs d v (view_at system views' d) begun after x k.is_system k.links few_ticks low c l (k.fits.rows c l);
     }
 
-    pub stepped : IsBetweenTurns system turns rest views' after
+    pub stepped : IsBetweenTurns system inputs turns rest views' after
     stepped =
         let m = same_memory begun _ after i.through in
         let spent = i.spare in

@@ -5,7 +5,7 @@ use Rattle.std.proofs.lemmas.List.{length-append}
 use Rattle.kernel_terms.specs.declared.system.System.{System}
 use Rattle.kernel_terms.specs.Systems.{tables_of}
 use Rattle.kernel_terms.specs.TableEntries.{channel_at}
-use Rattle.kernel_rules.specs.definitions.LegalTick.{DomainState, no_inputs, IsLegalTick}
+use Rattle.kernel_rules.specs.definitions.LegalTick.{DomainState, Inputs, IsLegalTick}
 use Rattle.tick_log.specs.definitions.RunText.{interface_signals}
 use Rattle.tick_log.specs.definitions.Fits.{AreStatuses}
 use Rattle.cell_core.specs.declared.moves.Side.{Side}
@@ -40,7 +40,7 @@ abbrev pub ends_at : System → ℕ → List EndOf
 ends_at system d = ends_of (tables_of system) d
 
 -- the step with the domain's system and number in place
-pub record OwnStep (system : System) (d : ℕ) (old new : DomainView) (before after : ChannelsState) : Type 0 where
+pub record OwnStep (system : System) (inputs : Inputs) (d : ℕ) (old new : DomainView) (before after : ChannelsState) : Type 0 where
   pub answers : List (Option Joined)
   pub asks : List (Option ℤ)
   pub replies : List (Option Joined)
@@ -51,7 +51,7 @@ pub record OwnStep (system : System) (d : ℕ) (old new : DomainView) (before af
   pub recalled : Recalled (ends_at system d) answers (length (ends_at system d)) before middle
   pub offered : Offered (ends_at system d) asks stamp replies (length (ends_at system d)) middle after
   pub next : stamp ≡ next_stamp old.stamp (tick_count_of old) (add_joins (tick_count_of old) answers (length (ends_at system d)) old.joins)
-  pub legal : IsLegalTick (tables_of system) no_inputs d (with_answers (ends_at system d) answers (length (ends_at system d)) (state_of old)) statuses ticked
+  pub legal : IsLegalTick (tables_of system) inputs d (with_answers (ends_at system d) answers (length (ends_at system d)) (state_of old)) statuses ticked
   pub entries : new.log.entries ≡ old.log.entries ++ record { stamp = stamp; statuses = statuses } ∷ []
   pub limit : stamp < 2 ^ 62
   pub shows : AreStatuses (interface_signals (tables_of system) d) statuses
@@ -66,9 +66,9 @@ pub record OwnStep (system : System) (d : ℕ) (old new : DomainView) (before af
   pub of_system : new.system ≡ system
   pub of_domain : new.domain ≡ d
 
-pub own_step : (system : System) (d : ℕ) (old new : DomainView) (before after : ChannelsState) (result : Stepped) → IsInCells system d (cell_in before) old → before.ends ≡ ends_at system d →
-    (i : IsStep Moves no_inputs before after old new result) → TicksOnce no_inputs old new i.answers i.replies i.asks i.stamp result → OwnStep system d old new before after
-own_step system d old new before after result h own i k =
+pub own_step : (system : System) (inputs : Inputs) (d : ℕ) (old new : DomainView) (before after : ChannelsState) (result : Stepped) → IsInCells system d (cell_in before) old → before.ends ≡ ends_at system d →
+    (i : IsStep Moves inputs before after old new result) → TicksOnce inputs old new i.answers i.replies i.asks i.stamp result → OwnStep system inputs d old new before after
+own_step system inputs d old new before after result h own i k =
     let E = ends_at system d in
     let to : (Q : System → ℕ → Type 0) → Q old.system old.domain → Q system d = at_own old system d h.of_system h.of_domain in
     let alone = to (λ y x. (n : ℕ) → n < length (ends_of (tables_of y) x) → get_or old.standing n false ≡ false → get_or i.answers n None ≡ None) i.alone in
@@ -89,8 +89,8 @@ own_step system d old new before after result h own i k =
       recalled = r;
       offered = all_offered E i.asks i.stamp i.replies (length E) x.middle after (ends_apart (tables_of system) d) (omega arith) (r.own ∙ own) replied x.after;
       next = to (λ y x. i.stamp ≡ next_stamp old.stamp (tick_count_of old) (add_joins (tick_count_of old) i.answers (length (ends_of (tables_of y) x)) old.joins)) (stamp_is_next old.stamp (tick_count_of old) (add_joins (tick_count_of old) i.answers (length (ends_in old)) old.joins) i.stamp i.next);
-      legal = to (λ y x. IsLegalTick (tables_of y) no_inputs x (with_answers (ends_of (tables_of y) x) i.answers (length (ends_of (tables_of y) x)) (state_of old)) k.statuses k.after)
-          (subst (λ s. IsLegalTick (tables_in old) no_inputs old.domain s k.statuses k.after) (sym (answers_found (tables_in old) old.domain (system_joins old.system no_inputs).apart i.answers (state_of old))) k.legal);
+      legal = to (λ y x. IsLegalTick (tables_of y) inputs x (with_answers (ends_of (tables_of y) x) i.answers (length (ends_of (tables_of y) x)) (state_of old)) k.statuses k.after)
+          (subst (λ s. IsLegalTick (tables_in old) inputs old.domain s k.statuses k.after) (sym (answers_found (tables_in old) old.domain (system_joins old.system inputs).apart i.answers (state_of old))) k.legal);
       entries = ap (λ z. z.entries) k.log;
       limit = k.limit;
       shows = to (λ y x. AreStatuses (interface_signals (tables_of y) x) k.statuses) k.shows;
@@ -99,7 +99,7 @@ own_step system d old new before after result h own i k =
       runs = k.going;
       last_stamp = k.last_stamp;
       asked = to (λ y x. (n : ℕ) → n < length (ends_of (tables_of y) x) → IsAsk (end_at (ends_of (tables_of y) x) n) k.after.statement (get_or i.asks n None)) k.asked;
-      state = to (λ y x. state_of new ≡ with_answers (ends_of (tables_of y) x) i.replies (length (ends_of (tables_of y) x)) k.after) (k.state ∙ sym (answers_found (tables_in old) old.domain (system_joins old.system no_inputs).apart i.replies k.after));
+      state = to (λ y x. state_of new ≡ with_answers (ends_of (tables_of y) x) i.replies (length (ends_of (tables_of y) x)) k.after) (k.state ∙ sym (answers_found (tables_in old) old.domain (system_joins old.system inputs).apart i.replies k.after));
       joins = to (λ y x. new.joins ≡ add_joins (suc (tick_count_of old)) i.replies (length (ends_of (tables_of y) x)) (add_joins (tick_count_of old) i.answers (length (ends_of (tables_of y) x)) old.joins)) k.joins;
       standing = to (λ y x. (n : ℕ) → n < length (ends_of (tables_of y) x) → get_or new.standing n false ≡ stands_after (get_or i.asks n None) (get_or i.replies n None)) k.standing;
       of_system = i.system ∙ h.of_system;
@@ -133,9 +133,9 @@ pub record After (system : System) (d : ℕ) (new : DomainView) (after : Channel
   pub state : with_answers (ends_at system d) replies (length (ends_at system d)) ticked ≡ found_state system d (cell_in after) new
   pub since : raised replies (length (ends_at system d)) stamp ≡ found_stamp system d (cell_in after) new
 
-pub after_step : (system : System) (d : ℕ) (old new : DomainView) (before after : ChannelsState) → IsInCells system d (cell_in before) old → (x : OwnStep system d old new before after) →
+pub after_step : (system : System) (inputs : Inputs) (d : ℕ) (old new : DomainView) (before after : ChannelsState) → IsInCells system d (cell_in before) old → (x : OwnStep system inputs d old new before after) →
     ((n : ℕ) → n < length (ends_in new) → StandsAs new n (own_side (cell_in after) (end_at (ends_in new) n))) → After system d new after x.ticked x.replies x.stamp
-after_step system d old new before after h x leaves =
+after_step system inputs d old new before after h x leaves =
     let E = ends_at system d in
     let n = length E in
     let t = tick_count_of old in

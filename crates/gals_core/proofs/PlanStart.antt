@@ -15,9 +15,8 @@ use Rattle.tick_log.specs.definitions.RunText.{interface_signals}
 use Rattle.tick_log.specs.definitions.Fits.{IsEntry, IsRow, most_ticks}
 use Rattle.cell_core.specs.definitions.Cells.{empty_cell}
 use Rattle.domain_core.specs.definitions.step.Domains.{DomainView, ends_of, joins_at, tick_count_of, state_of}
-use Rattle.kernel_rules.specs.definitions.LegalTick.{no_inputs}
-use Rattle.gals_core.specs.Setups.{order_setup}
-use Rattle.domain_core.specs.definitions.runs.Systems.{domain_count}
+use Rattle.kernel_rules.specs.definitions.LegalTick.{Inputs}
+use Rattle.domain_core.specs.definitions.runs.Systems.{domain_count, setup_of}
 use Rattle.domain_core.specs.definitions.runs.Scheduled.{turns_of}
 use Rattle.domain_core.proofs.lemmas.runs.WellFormedSystems.{system_is_fresh, system_joins}
 use Rattle.kernel_terms.proofs.SystemLimits.{few_domains}
@@ -90,7 +89,7 @@ is_new system d ticks v h =
       lists = ap (λ z. length z.joins) h.is ∙ at_own h.first system d k.of_system k.number (λ y x. length h.first.joins ≡ length (ends_of (tables_of y) x)) k.lists;
       joins = λ n. ap (λ z. joins_at z.joins n) h.is ∙ k.joins n;
       standing = λ n. ap (λ z. get_or z.standing n false) h.is ∙ k.standing n;
-      state = ap state_of h.is ∙ k.state no_inputs;
+      state = λ inputs. ap state_of h.is ∙ k.state inputs;
     }
 
 -- no compiled domain has made a tick
@@ -119,11 +118,11 @@ is_ready system ticks kept old views b logs are budgets same h opened none room 
       room = omega (arith, room, h.count);
     })
 
-module _ (system : System) (ticks turns : List ℕ) (views : List DomainView) (b : ChannelsState) (logs : Vec LogState Global) (ready : IsReady system ticks views b logs) (fit : FitBudgets ticks turns) where
+module _ (system : System) (inputs : Inputs) (ticks turns : List ℕ) (views : List DomainView) (b : ChannelsState) (logs : Vec LogState Global) (ready : IsReady system ticks views b logs) (fit : FitBudgets ticks turns) where
   abbrev infos : List ChannelInfo
   infos = (tables_of system).channels
 
-  in_views : (d : ℕ) → d < domain_count (order_setup system) → d < length views
+  in_views : (d : ℕ) → d < domain_count (setup_of system inputs) → d < length views
   in_views d less = omega (arith, less, domain_total system, ready.count)
 
   few : 2 * length turns < 2 ^ 62
@@ -160,7 +159,7 @@ module _ (system : System) (ticks turns : List ℕ) (views : List DomainView) (b
     | inr past ↦ ap (λ (z : HistoryState). z.rows) (histories_are c ∙ get_or_past (map (opened_history ticks) infos) c no_history (omega (arith, past, length-map infos (opened_history ticks))))
   ]
 
-  fits : FitSoFar system views b
+  fits : FitSoFar system inputs views b
   fits = record {
     signals = λ d less. let h = ready.domains d (in_views d less) in ap (λ z. z.log.signals) h.is ∙ ap (λ z. z.signals) h.compiled.log;
     entries = λ d less. no_entries_fit (IsEntry (interface_signals (tables_of system) d)) (view_at system views d).log.entries (no_entries d);
@@ -170,9 +169,9 @@ module _ (system : System) (ticks turns : List ℕ) (views : List DomainView) (b
     rows = λ c less. no_entries_fit (IsRow (channel_at (tables_of system) c).kind) (history_in b c).rows (no_rows c);
   }
 
-  pub starts : IsBetweenTurns system turns turns views b
+  pub starts : IsBetweenTurns system inputs turns turns views b
   starts = record {
-    is_system = system_joins system no_inputs;
+    is_system = system_joins system inputs;
     few = few;
     domains = ready.count ∙ sym (domain_total system);
     turns_within = λ i less. omega (arith, fit.within i less, ready.budgets.count, domain_total system);
@@ -188,7 +187,7 @@ module _ (system : System) (ticks turns : List ℕ) (views : List DomainView) (b
         let room = ap (λ (z : HistoryState). z.room) (history_here c less) in
         omega (arith, room, fit.few (channel_at (tables_of system) c).sender, fit.few (channel_at (tables_of system) c).receiver);
     stands =
-        at_start system turns (view_at system views) (cell_in b) (λ c. (history_in b c).rows) (system_joins system no_inputs) (system_is_fresh system no_inputs)
+        at_start system inputs turns (view_at system views) (cell_in b) (λ c. (history_in b c).rows) (system_joins system inputs) (system_is_fresh system inputs)
         (λ d less. is_new system d (get_or ticks d 0) (view_at system views d) (ready.domains d (in_views d less))) no_entries
         (λ c. ap (λ z. get_or z c empty_cell) ready.channels.cells ∙ all_same (length infos) c empty_cell) no_rows;
     fits = fits;

@@ -20,17 +20,16 @@ use Rattle.domain_core.specs.definitions.step.EndCalls.{end_at, recalls, offers}
 use Rattle.domain_core.specs.definitions.step.Domains.{DomainView, ends_of, ends_in, tick_count_of, state_of, joins_at}
 use Rattle.domain_core.specs.definitions.step.Steps.{Waits, WaitsAs, StandsAs, IsStep, add_joins}
 use Rattle.domain_core.specs.step.Answers.{next_stamp, newest, newest_of}
-use Rattle.domain_core.specs.definitions.runs.Systems.{IsSystem, IsFresh, start, start_of, domain_count}
+use Rattle.domain_core.specs.definitions.runs.Systems.{IsSystem, IsFresh, start, start_of, domain_count, setup_of}
 use Rattle.domain_core.specs.definitions.runs.LegalRuns.{Fits}
 use Rattle.domain_core.specs.definitions.runs.Scheduled.{IsScheduledRun}
 use Rattle.domain_core.proofs.lemmas.step.StateAnswers.{with_none}
 use Rattle.domain_core.proofs.lemmas.step.StampAnswers.{stamp_is_next}
 use Rattle.domain_core.proofs.lemmas.runs.ScheduledTurns.{scheduled_by_step}
 use Rattle.kernel_terms.specs.Marks.{is_over}
-use Rattle.kernel_rules.specs.definitions.LegalTick.{no_inputs}
+use Rattle.kernel_rules.specs.definitions.LegalTick.{Inputs}
 use Rattle.domain_core.proofs.lemmas.step.StampAnswers.{all_raised}
 use Rattle.gals_core.specs.Channels.{ChannelsState, Moves, cell_in, history_in}
-use Rattle.gals_core.specs.Setups.{order_setup}
 use Rattle.gals_core.specs.RunsOverCells.{own_side, pending, RunBeginsWith, StandsFor, IsNew}
 use Rattle.domain_core.proofs.lemmas.step.StateJoins.{ends_apart}
 use Rattle.gals_core.proofs.EndAnswerLemmas.{raised_same, answers_mark}
@@ -40,9 +39,9 @@ use Rattle.gals_core.proofs.OwnStep.{OwnStep, own_step, ends_at, at_own, raised_
 use Rattle.gals_core.proofs.TurnLemmas.{Begins, whole_turn}
 
 -- the turn of a domain that has ended
-pub skip_turn : (system : System) (turns rest : List ℕ) (d : ℕ) (view : ℕ → DomainView) (cell : ℕ → CellState) (rows : ℕ → List JoinRow) → d < domain_count (order_setup system) → is_over (view d).log.mark ≡ true →
-    StandsFor system turns (d ∷ rest) view cell rows → StandsFor system turns rest view cell rows
-skip_turn system turns rest d view cell rows within over w =
+pub skip_turn : (system : System) (inputs : Inputs) (turns rest : List ℕ) (d : ℕ) (view : ℕ → DomainView) (cell : ℕ → CellState) (rows : ℕ → List JoinRow) → d < domain_count (setup_of system inputs) → is_over (view d).log.mark ≡ true →
+    StandsFor system inputs turns (d ∷ rest) view cell rows → StandsFor system inputs turns rest view cell rows
+skip_turn system inputs turns rest d view cell rows within over w =
     let ended : is_over (w.s.domain d).mark ≡ true =
     ap (λ z. is_over z.mark) (w.state d within) ∙ ap is_over (answers_mark (ends_at system d) (pending cell (ends_at system d)) (length (ends_at system d)) (state_of (view d))) ∙ over in
     let here : length (d ∷ rest) ≡ suc (length rest) = refl in
@@ -65,10 +64,10 @@ skip_turn system turns rest d view cell rows within over w =
     }
 
 -- the run after the last turn
-pub at_end : (system : System) (turns : List ℕ) (view : ℕ → DomainView) (cell : ℕ → CellState) (rows : ℕ → List JoinRow) (r : RunState) → (w : StandsFor system turns [] view cell rows) → Fits (order_setup system) r →
+pub at_end : (system : System) (inputs : Inputs) (turns : List ℕ) (view : ℕ → DomainView) (cell : ℕ → CellState) (rows : ℕ → List JoinRow) (r : RunState) → (w : StandsFor system inputs turns [] view cell rows) → Fits (setup_of system inputs) r →
     ((d : ℕ) → (log_of r d).entries ≡ (view d).log.entries) → ((d : ℕ) → (log_of r d).mark ≡ (view d).log.mark) → ((c : ℕ) → history_of r c ≡ rows c) →
-    IsScheduledRun (order_setup system) r turns w.s
-at_end system turns view cell rows r w fits entries marks histories =
+    IsScheduledRun (setup_of system inputs) r turns w.s
+at_end system inputs turns view cell rows r w fits entries marks histories =
     let begins : RunBeginsWith r (λ d. (view d).log.entries) rows = record {
       more_entries = λ d. [];
       more_rows = λ c. [];
@@ -82,8 +81,8 @@ at_end system turns view cell rows r w fits entries marks histories =
     })
 
 -- no step of a turn finds its stamp past the limit
-module _ (system : System) (turns rest : List ℕ) (d : ℕ) (view new : ℕ → DomainView) (before after : ChannelsState) (begins : Begins system d view before) (own : before.ends ≡ ends_at system d)
-    (w : StandsFor system turns (d ∷ rest) view (cell_in before) (λ c. (history_in before c).rows)) (few : 2 * length turns ≤ 2 ^ 62) (result : Stepped) (i : IsStep Moves no_inputs before after (view d) (new d) result) where
+module _ (system : System) (inputs : Inputs) (turns rest : List ℕ) (d : ℕ) (view new : ℕ → DomainView) (before after : ChannelsState) (begins : Begins system inputs d view before) (own : before.ends ≡ ends_at system d)
+    (w : StandsFor system inputs turns (d ∷ rest) view (cell_in before) (λ c. (history_in before c).rows)) (few : 2 * length turns ≤ 2 ^ 62) (result : Stepped) (i : IsStep Moves inputs before after (view d) (new d) result) where
   stamp_low : i.stamp < 2 ^ 62
   stamp_low =
       let E = ends_at system d in
@@ -104,15 +103,15 @@ module _ (system : System) (turns rest : List ℕ) (d : ℕ) (view new : ℕ →
       let here : length (d ∷ rest) ≡ suc (length rest) = refl in
       omega (arith, is, w.low d begins.within, few)
 
-  pub made : OwnStep system d (view d) (new d) before after
+  pub made : OwnStep system inputs d (view d) (new d) before after
   made = elim i.goes [
-    | inl k ↦ own_step system d (view d) (new d) before after result (w.views d begins.within) own i k
+    | inl k ↦ own_step system inputs d (view d) (new d) before after result (w.views d begins.within) own i k
     | inr k ↦ let v = k.0.limit in absurd (omega (arith, v, stamp_low))
   ]
 
   pub turn_done : ((e : ℕ) → e ≢ d → new e ≡ view e) → ((n : ℕ) → n < length (ends_in (new d)) → StandsAs (new d) n (own_side (cell_in after) (end_at (ends_in (new d)) n))) →
-      StandsFor system turns rest new (cell_in after) (λ c. (history_in after c).rows)
-  turn_done others leaves = whole_turn system turns rest d view new before after begins w made others leaves
+      StandsFor system inputs turns rest new (cell_in after) (λ c. (history_in after c).rows)
+  turn_done others leaves = whole_turn system inputs turns rest d view new before after begins w made others leaves
 
 -- a domain before its first tick
 new_newest : (t : ℕ) (joins : List (List EndJoin)) → ((k : ℕ) → joins_at joins k ≡ []) → newest_of t joins ≡ 0
@@ -130,21 +129,21 @@ no_offer : (a : Side) → IsNone (standing_offer a (standing_at a empty_cell))
 no_offer Sender = refl
 no_offer Receiver = refl
 
-pub new_state : (system : System) (d : ℕ) (v : DomainView) → IsNew system d v → state_of v ≡ start_of (order_setup system) d
-new_state system d v h = h.state
+pub new_state : (system : System) (inputs : Inputs) (d : ℕ) (v : DomainView) → IsNew system d v → state_of v ≡ start_of (setup_of system inputs) d
+new_state system inputs d v h = h.state inputs
 
-not_waiting : (system : System) (d : ℕ) (e : EndOf) (value : ℤ) → IsFresh (order_setup system) → Waits e value (start_of (order_setup system) d).statement → ⊥
-not_waiting system d e value fresh w = by_side e.side w
+not_waiting : (system : System) (inputs : Inputs) (d : ℕ) (e : EndOf) (value : ℤ) → IsFresh (setup_of system inputs) → Waits e value (start_of (setup_of system inputs) d).statement → ⊥
+not_waiting system inputs d e value fresh w = by_side e.side w
   where
-    by_side : (a : Side) → WaitsAs a e.channel value (start_of (order_setup system) d).statement → ⊥
+    by_side : (a : Side) → WaitsAs a e.channel value (start_of (setup_of system inputs) d).statement → ⊥
     by_side Sender h = fresh.sends d e.channel value h
     by_side Receiver h = fresh.receives d e.channel h.0
 
-at_empty_cells : (system : System) (turns : List ℕ) (view : ℕ → DomainView) → IsSystem (order_setup system) → IsFresh (order_setup system) → ((d : ℕ) → d < domain_count (order_setup system) → IsNew system d (view d)) → ((d : ℕ) → (view d).log.entries ≡ []) →
-    StandsFor system turns turns view (λ c. empty_cell) (λ c. [])
-at_empty_cells system turns view sys fresh new entries =
+at_empty_cells : (system : System) (inputs : Inputs) (turns : List ℕ) (view : ℕ → DomainView) → IsSystem (setup_of system inputs) → IsFresh (setup_of system inputs) → ((d : ℕ) → d < domain_count (setup_of system inputs) → IsNew system d (view d)) → ((d : ℕ) → (view d).log.entries ≡ []) →
+    StandsFor system inputs turns turns view (λ c. empty_cell) (λ c. [])
+at_empty_cells system inputs turns view sys fresh new entries =
     record {
-      s = start (order_setup system);
+      s = start (setup_of system inputs);
       last = λ d. 0;
       since = λ d. 0;
       goes_on = record {
@@ -152,7 +151,7 @@ at_empty_cells system turns view sys fresh new entries =
         j = λ c. 0;
         t_is = λ d. sym (ap length (entries d));
         j_is = λ c. refl;
-        completes = λ r moves end b turned tells stamps marks. scheduled_by_step (order_setup system) r turns moves end sys fresh marks.fits turned tells stamps marks.marks;
+        completes = λ r moves end b turned tells stamps marks. scheduled_by_step (setup_of system inputs) r turns moves end sys fresh marks.fits turned tells stamps marks.marks;
       };
       views = λ d l.
           let h = new d l in
@@ -164,11 +163,11 @@ at_empty_cells system turns view sys fresh new entries =
             later = λ t m. new_newest t (view d).joins h.joins;
             stands = λ n m q. absurd (true≢false (sym q ∙ h.standing n));
             free = λ n m q. no_offer (end_at (ends_at system d) n).side;
-            idle = λ n m q value w. not_waiting system d (end_at (ends_at system d) n) value fresh (subst (λ z. Waits (end_at (ends_at system d) n) value z.statement) (new_state system d (view d) h) w);
+            idle = λ n m q value w. not_waiting system inputs d (end_at (ends_at system d) n) value fresh (subst (λ z. Waits (end_at (ends_at system d) n) value z.statement) (new_state system inputs d (view d) h) w);
           };
       state = λ d l.
           let E = ends_at system d in
-          sym (with_none E (pending (λ c. empty_cell) E) (length E) (state_of (view d)) (no_pending E) ∙ new_state system d (view d) (new d l));
+          sym (with_none E (pending (λ c. empty_cell) E) (length E) (state_of (view d)) (no_pending E) ∙ new_state system inputs d (view d) (new d l));
       last_is = λ d l. sym (new d l).stamp;
       since_is = λ d l.
           let E = ends_at system d in
@@ -180,8 +179,8 @@ at_empty_cells system turns view sys fresh new entries =
     }
 
 -- the domains before their first ticks, and cells at which no side stands
-pub at_start : (system : System) (turns : List ℕ) (view : ℕ → DomainView) (cell : ℕ → CellState) (rows : ℕ → List JoinRow) → IsSystem (order_setup system) → IsFresh (order_setup system) →
-    ((d : ℕ) → d < domain_count (order_setup system) → IsNew system d (view d)) → ((d : ℕ) → (view d).log.entries ≡ []) → ((c : ℕ) → cell c ≡ empty_cell) → ((c : ℕ) → rows c ≡ []) →
-    StandsFor system turns turns view cell rows
-at_start system turns view cell rows sys fresh new entries cells none =
-    subst (λ z. StandsFor system turns turns view z rows) (sym (fun_ext cells)) (subst (StandsFor system turns turns view (λ c. empty_cell)) (sym (fun_ext none)) (at_empty_cells system turns view sys fresh new entries))
+pub at_start : (system : System) (inputs : Inputs) (turns : List ℕ) (view : ℕ → DomainView) (cell : ℕ → CellState) (rows : ℕ → List JoinRow) → IsSystem (setup_of system inputs) → IsFresh (setup_of system inputs) →
+    ((d : ℕ) → d < domain_count (setup_of system inputs) → IsNew system d (view d)) → ((d : ℕ) → (view d).log.entries ≡ []) → ((c : ℕ) → cell c ≡ empty_cell) → ((c : ℕ) → rows c ≡ []) →
+    StandsFor system inputs turns turns view cell rows
+at_start system inputs turns view cell rows sys fresh new entries cells none =
+    subst (λ z. StandsFor system inputs turns turns view z rows) (sym (fun_ext cells)) (subst (StandsFor system inputs turns turns view (λ c. empty_cell)) (sym (fun_ext none)) (at_empty_cells system inputs turns view sys fresh new entries))

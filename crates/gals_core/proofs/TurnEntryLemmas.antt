@@ -3,6 +3,7 @@ use Rattle.std.proofs.Common.{◌≡◌, ◌≢◌, ℕ, zero, suc, ◌^◌, ◌
 use Rattle.std.specs.Prelude.{IfSome, max, All}
 use Rattle.std.proofs.lemmas.Bool.{cases_eq}
 use Rattle.std.proofs.lemmas.List.Elements.{All-append, All-push}
+use Rattle.kernel_rules.specs.definitions.LegalTick.{Inputs}
 use Rattle.kernel_terms.specs.declared.system.System.{System}
 use Rattle.kernel_terms.specs.Systems.{tables_of}
 use Rattle.kernel_terms.specs.TableEntries.{channel_at}
@@ -16,8 +17,7 @@ use Rattle.domain_core.specs.step.Answers.{raised, raised_by}
 use Rattle.domain_core.specs.definitions.step.Domains.{DomainView}
 use Rattle.domain_core.specs.definitions.step.Steps.{FitsJoin}
 use Rattle.domain_core.specs.definitions.runs.Stamps.{stamp_of_join}
-use Rattle.gals_core.specs.Setups.{order_setup}
-use Rattle.domain_core.specs.definitions.runs.Systems.{IsSystem, domain_count, channel_count}
+use Rattle.domain_core.specs.definitions.runs.Systems.{IsSystem, domain_count, channel_count, setup_of}
 use Rattle.gals_core.specs.Channels.{ChannelsState, history_in, ticks_in, link_at, row_in}
 use Rattle.domain_core.proofs.lemmas.step.OwnEnds.{IsOwn, own_end, has_side}
 use Rattle.gals_core.proofs.CallEffects.{new_rows}
@@ -39,7 +39,7 @@ raised_covers a (suc n) m x j less q = elim (cases_eq m n) [
     there None y h = h
     there (Some i) y h = omega (arith, h)
 
-module _ (system : System) (d : ℕ) (old new : DomainView) (before after : ChannelsState) (x : OwnStep system d old new before after) where
+module _ (system : System) (inputs : Inputs) (d : ℕ) (old new : DomainView) (before after : ChannelsState) (x : OwnStep system inputs d old new before after) where
   pub entries_fit : All (IsEntry (interface_signals (tables_of system) d)) old.log.entries → All (IsEntry (interface_signals (tables_of system) d)) new.log.entries
   entries_fit h =
       let P = IsEntry (interface_signals (tables_of system) d) in
@@ -47,9 +47,9 @@ module _ (system : System) (d : ℕ) (old new : DomainView) (before after : Chan
       (All-push P old.log.entries (record { stamp = x.stamp; statuses = x.statuses }) h
       (record { stamp = record { first = omega (arith, x.next); last = x.limit }; statuses = x.shows }))
 
-  module _ (sys : IsSystem (order_setup system))
-      (links : (c : ℕ) → c < channel_count (order_setup system) → ((link_at before.links c).sender ≡ (channel_at (tables_of system) c).sender) × ((link_at before.links c).receiver ≡ (channel_at (tables_of system) c).receiver))
-      (few : (e : ℕ) → e < domain_count (order_setup system) → ticks_in before e ≤ most_ticks) (low : raised x.replies (length (ends_at system d)) x.stamp < 2 ^ 62) where
+  module _ (sys : IsSystem (setup_of system inputs))
+      (links : (c : ℕ) → c < channel_count (setup_of system inputs) → ((link_at before.links c).sender ≡ (channel_at (tables_of system) c).sender) × ((link_at before.links c).receiver ≡ (channel_at (tables_of system) c).receiver))
+      (few : (e : ℕ) → e < domain_count (setup_of system inputs) → ticks_in before e ≤ most_ticks) (low : raised x.replies (length (ends_at system d)) x.stamp < 2 ^ 62) where
     abbrev at : ℕ → ℕ
     at n = (end_at (ends_at system d) n).channel
 
@@ -86,7 +86,7 @@ module _ (system : System) (d : ℕ) (old new : DomainView) (before after : Chan
     abbrev Fit : ChannelsState → ℕ → Type 0
     Fit b c = All (IsRow (channel_at (tables_of system) c).kind) (history_in b c).rows
 
-    at_own : (c : ℕ) → c < channel_count (order_setup system) → (side : Side) → IsOwn d side (channel_at (tables_of system) c) → Fit before c → Fit after c
+    at_own : (c : ℕ) → c < channel_count (setup_of system inputs) → (side : Side) → IsOwn d side (channel_at (tables_of system) c) → Fit before c → Fit after c
     at_own c less side own h =
         let f = has_side (tables_of system) d c side less own in
         let is : at f.place ≡ c = ap (λ z. z.channel) f.is in
@@ -99,7 +99,7 @@ module _ (system : System) (d : ℕ) (old new : DomainView) (before after : Chan
         none (end_at (ends_at system d) n).side (subst (λ z. IsOwn d (end_at (ends_at system d) n).side (channel_at (tables_of system) z)) (sym q) y.own) in
         subst (All (IsRow (channel_at (tables_of system) c).kind)) (sym (x.offered.other_rows c far ∙ x.recalled.rows c)) h
 
-    pub rows_fit : (c : ℕ) → c < channel_count (order_setup system) → Fit before c → Fit after c
+    pub rows_fit : (c : ℕ) → c < channel_count (setup_of system inputs) → Fit before c → Fit after c
     rows_fit c less h = elim (cases_eq (channel_at (tables_of system) c).sender d) [
       | inl q ↦ at_own c less Sender q h
       | inr ns ↦ elim (cases_eq (channel_at (tables_of system) c).receiver d) [

@@ -4,7 +4,7 @@ use Rattle.std.specs.Prelude.{max, slice_index_or}
 use Rattle.std.proofs.lemmas.Bool.{cases_eq, cases_lt}
 use Rattle.std.proofs.lemmas.List.{length-append, append_assoc}
 use Rattle.std.proofs.Math.Seq.{get_or-append_seam}
-use Rattle.kernel_rules.specs.definitions.LegalTick.{no_inputs}
+use Rattle.kernel_rules.specs.definitions.LegalTick.{Inputs}
 use Rattle.kernel_terms.specs.declared.system.System.{System}
 use Rattle.kernel_terms.specs.Systems.{tables_of}
 use Rattle.kernel_terms.specs.TableEntries.{channel_at}
@@ -21,11 +21,10 @@ use Rattle.domain_core.specs.step.Answers.{raised, raised_by}
 use Rattle.domain_core.specs.definitions.step.Domains.{DomainView, ends_in, tick_count_of, state_of}
 use Rattle.domain_core.specs.definitions.step.Steps.{StandsAs}
 use Rattle.domain_core.specs.step.Answers.{with_answers, newest_of}
-use Rattle.domain_core.specs.definitions.runs.Systems.{SystemState, MakesTick, TickStep, IsSystem, domain_count, channel_count}
+use Rattle.domain_core.specs.definitions.runs.Systems.{SystemState, MakesTick, TickStep, IsSystem, domain_count, channel_count, setup_of}
 use Rattle.domain_core.proofs.lemmas.runs.StatesBetweenTicks.{put_here, put_apart, put_cases}
 use Rattle.domain_core.proofs.lemmas.step.StampAnswers.{all_raised}
 use Rattle.gals_core.specs.Channels.{ChannelsState, cell_in, history_in, ticks_in, link_at}
-use Rattle.gals_core.specs.Setups.{order_setup}
 use Rattle.gals_core.specs.RunsOverCells.{domain_at, IsInCells, own_side, pending, found_state, found_stamp, RunBeginsWith, StandsFor}
 use Rattle.domain_core.proofs.lemmas.step.OwnEnds.{own_end}
 use Rattle.gals_core.proofs.OwnDomains.{domain_is}
@@ -123,15 +122,15 @@ recalled_kept system d e answers before middle ne r i less =
     ]
 
 -- the cells and histories with which a domain begins its turn
-pub record Begins (system : System) (d : ℕ) (view : ℕ → DomainView) (b : ChannelsState) : Type 0 where
-  pub within : d < domain_count (order_setup system)
-  pub sys : IsSystem (order_setup system)
-  pub links : (c : ℕ) → c < channel_count (order_setup system) → ((link_at b.links c).sender ≡ (channel_at (tables_of system) c).sender) × ((link_at b.links c).receiver ≡ (channel_at (tables_of system) c).receiver)
+pub record Begins (system : System) (inputs : Inputs) (d : ℕ) (view : ℕ → DomainView) (b : ChannelsState) : Type 0 where
+  pub within : d < domain_count (setup_of system inputs)
+  pub sys : IsSystem (setup_of system inputs)
+  pub links : (c : ℕ) → c < channel_count (setup_of system inputs) → ((link_at b.links c).sender ≡ (channel_at (tables_of system) c).sender) × ((link_at b.links c).receiver ≡ (channel_at (tables_of system) c).receiver)
   pub my_ticks : ticks_in b d ≡ suc (tick_count_of (view d))
-  pub their_ticks : (e : ℕ) → e < domain_count (order_setup system) → e ≢ d → ticks_in b e ≡ tick_count_of (view e)
+  pub their_ticks : (e : ℕ) → e < domain_count (setup_of system inputs) → e ≢ d → ticks_in b e ≡ tick_count_of (view e)
 
-module _ (system : System) (turns rest : List ℕ) (d : ℕ) (view new : ℕ → DomainView) (before after : ChannelsState) (begins : Begins system d view before)
-    (w : StandsFor system turns (d ∷ rest) view (cell_in before) (λ c. (history_in before c).rows)) (x : OwnStep system d (view d) (new d) before after) (others : (e : ℕ) → e ≢ d → new e ≡ view e) where
+module _ (system : System) (inputs : Inputs) (turns rest : List ℕ) (d : ℕ) (view new : ℕ → DomainView) (before after : ChannelsState) (begins : Begins system inputs d view before)
+    (w : StandsFor system inputs turns (d ∷ rest) view (cell_in before) (λ c. (history_in before c).rows)) (x : OwnStep system inputs d (view d) (new d) before after) (others : (e : ℕ) → e ≢ d → new e ≡ view e) where
   abbrev top : ℕ
   top = 2 * length turns - 2 * length (d ∷ rest)
 
@@ -157,7 +156,7 @@ module _ (system : System) (turns rest : List ℕ) (d : ℕ) (view new : ℕ →
       standing_at (end_at (ends_at system e) i).side (cell_in x.middle (end_at (ends_at system e) i).channel) ≡ standing_at (end_at (ends_at system e) i).side (cell_in before (end_at (ends_at system e) i).channel)
   kept e ne = recalled_kept system d e x.answers before x.middle ne x.recalled
 
-  turn : TurnOf system d new x.middle after x.ticked x.asks x.replies x.stamp
+  turn : TurnOf system inputs d new x.middle after x.ticked x.asks x.replies x.stamp
   turn = record {
     within = begins.within;
     sys = begins.sys;
@@ -174,9 +173,9 @@ module _ (system : System) (turns rest : List ℕ) (d : ℕ) (view new : ℕ →
   abbrev ticked : SystemState
   ticked = record { domain = put_at w.s.domain d x.ticked; joins = w.s.joins }
 
-  first : Stage system turns rest d new x.middle after x.ticked x.replies x.stamp entries top 0 0 (channel_count (order_setup system))
+  first : Stage system inputs turns rest d new x.middle after x.ticked x.replies x.stamp entries top 0 0 (channel_count (setup_of system inputs))
   first =
-      let p = order_setup system in
+      let p = setup_of system inputs in
       let g = w.goes_on in
       let old_entries : ℕ → List Entry = λ e. (view e).log.entries in
       let old_rows : ℕ → List JoinRow = λ c. (history_in before c).rows in
@@ -184,7 +183,7 @@ module _ (system : System) (turns rest : List ℕ) (d : ℕ) (view new : ℕ →
       let entry : Entry = record { stamp = x.stamp; statuses = x.statuses } in
       let step : TickStep p w.s d x.statuses ticked = record {
         after = x.ticked;
-        legal = subst (λ z. IsLegalTick (tables_of system) no_inputs d z x.statuses x.ticked) (sym from_state) x.legal;
+        legal = subst (λ z. IsLegalTick (tables_of system) inputs d z x.statuses x.ticked) (sym from_state) x.legal;
         next = refl;
       } in
       let here : length (d ∷ rest) ≡ suc (length rest) = refl in
@@ -241,14 +240,14 @@ module _ (system : System) (turns rest : List ℕ) (d : ℕ) (view new : ℕ →
       }
 
   pub whole_turn : ((n : ℕ) → n < length (ends_in (new d)) → StandsAs (new d) n (own_side (cell_in after) (end_at (ends_in (new d)) n))) →
-      StandsFor system turns rest new (cell_in after) (λ c. (history_in after c).rows)
+      StandsFor system inputs turns rest new (cell_in after) (λ c. (history_in after c).rows)
   whole_turn leaves =
-      let p = order_setup system in
+      let p = setup_of system inputs in
       let E = ends_at system d in
-      let y = all_stages system turns rest d new x.middle after x.ticked x.asks x.replies x.stamp entries top turn (channel_count p) 0 0 first in
+      let y = all_stages system inputs turns rest d new x.middle after x.ticked x.asks x.replies x.stamp entries top turn (channel_count p) 0 0 first in
       let n = y.0 in
       let z = y.1 in
-      let a = after_step system d (view d) (new d) before after (w.views d begins.within) x leaves in
+      let a = after_step system inputs d (view d) (new d) before after (w.views d begins.within) x leaves in
       let over : n ≡ length E = elim (cases_lt n (length E)) [
         | inl l ↦ absurd (omega (arith, z.beyond n (omega arith) l, (own_end (tables_of system) d n l).channel))
         | inr l ↦ omega (arith, l, z.ends_within)

@@ -2,6 +2,5 @@ pub mod BetweenTurns
 pub mod Channels
 pub mod Opening
 pub mod Plans
-pub mod Setups
 pub mod RunsOverCells
 pub mod definitions

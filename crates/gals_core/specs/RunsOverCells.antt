@@ -5,7 +5,7 @@ use Rattle.kernel_terms.specs.declared.system.System.{System}
 use Rattle.kernel_terms.specs.Systems.{tables_of}
 use Rattle.kernel_terms.specs.TableEntries.{channel_at}
 use Rattle.kernel_terms.specs.Marks.{Going}
-use Rattle.kernel_rules.specs.definitions.LegalTick.{DomainState}
+use Rattle.kernel_rules.specs.definitions.LegalTick.{DomainState, Inputs}
 use Rattle.tick_log.specs.declared.history.JoinRow.{JoinRow}
 use Rattle.tick_log.specs.definitions.Runs.{Entry, RunState, log_of, history_of}
 use Rattle.cell_core.specs.declared.moves.Side.{Side}
@@ -20,8 +20,7 @@ use Rattle.domain_core.specs.step.Answers.{raised}
 use Rattle.domain_core.specs.definitions.step.Domains.{DomainView, ends_of, tick_count_of, state_of, joins_at}
 use Rattle.domain_core.specs.definitions.step.Steps.{Waits, IsWaitingOffer}
 use Rattle.domain_core.specs.step.Answers.{with_answers, newest_of}
-use Rattle.gals_core.specs.Setups.{order_setup}
-use Rattle.domain_core.specs.definitions.runs.Systems.{Setup, SystemState, Move, start_of, domain_count}
+use Rattle.domain_core.specs.definitions.runs.Systems.{Setup, SystemState, Move, start_of, domain_count, setup_of}
 use Rattle.domain_core.specs.definitions.runs.LegalRuns.{Fits}
 use Rattle.domain_core.specs.definitions.runs.Scheduled.{TellsFrom, TakesTurns, IsScheduledRun}
 use Rattle.domain_core.specs.runs.StampsByStep.{StampsFrom}
@@ -85,33 +84,35 @@ pub record EndsIn (setup : Setup) (r : RunState) (end : SystemState) : Type 0 wh
   pub marks : (d : ℕ) → d < domain_count setup → (log_of r d).mark ≡ (end.domain d).mark
 
 -- Whatever run goes on from here with the turns that are left is the scheduled run of all turns.
-pub record GoesOn (system : System) (turns left : List ℕ) (entries : ℕ → List Entry) (rows : ℕ →
-    List JoinRow) (s : SystemState) (last since : ℕ → ℕ) : Type 0 where
+pub record GoesOn (system : System) (inputs : Inputs) (turns left : List ℕ)
+    (entries : ℕ → List Entry) (rows : ℕ → List JoinRow) (s : SystemState)
+    (last since : ℕ → ℕ) : Type 0 where
   pub t : ℕ → ℕ
   pub j : ℕ → ℕ
   pub t_is : (d : ℕ) → t d ≡ length (entries d)
   pub j_is : (c : ℕ) → j c ≡ length (rows c)
   pub completes : (r : RunState) (moves : List Move) (end : SystemState) →
-      RunBeginsWith r entries rows → TakesTurns (order_setup system) s left moves end →
+      RunBeginsWith r entries rows → TakesTurns (setup_of system inputs) s left moves end →
       TellsFrom r t j moves →
-      StampsFrom (order_setup system) r t j last since moves → EndsIn (order_setup system) r end →
-      IsScheduledRun (order_setup system) r turns end
+      StampsFrom (setup_of system inputs) r t j last since moves →
+      EndsIn (setup_of system inputs) r end →
+      IsScheduledRun (setup_of system inputs) r turns end
 
 -- The domains and the cells of the channels stand for a state of the system from which the turns that are left
 -- complete the scheduled run.
-pub record StandsFor (system : System) (turns left : List ℕ) (view : ℕ → DomainView) (cell : ℕ →
-    CellState) (rows : ℕ → List JoinRow) : Type 0 where
+pub record StandsFor (system : System) (inputs : Inputs) (turns left : List ℕ)
+    (view : ℕ → DomainView) (cell : ℕ → CellState) (rows : ℕ → List JoinRow) : Type 0 where
   pub s : SystemState
   pub last : ℕ → ℕ
   pub since : ℕ → ℕ
-  pub goes_on : GoesOn system turns left (λ d. (view d).log.entries) rows s last since
-  pub views : (d : ℕ) → d < domain_count (order_setup system) → IsInCells system d cell (view d)
-  pub state : (d : ℕ) → d < domain_count (order_setup system) →
+  pub goes_on : GoesOn system inputs turns left (λ d. (view d).log.entries) rows s last since
+  pub views : (d : ℕ) → d < domain_count (setup_of system inputs) → IsInCells system d cell (view d)
+  pub state : (d : ℕ) → d < domain_count (setup_of system inputs) →
       s.domain d ≡ found_state system d cell (view d)
-  pub last_is : (d : ℕ) → d < domain_count (order_setup system) → last d ≡ (view d).stamp
-  pub since_is : (d : ℕ) → d < domain_count (order_setup system) →
+  pub last_is : (d : ℕ) → d < domain_count (setup_of system inputs) → last d ≡ (view d).stamp
+  pub since_is : (d : ℕ) → d < domain_count (setup_of system inputs) →
       since d ≡ found_stamp system d cell (view d)
-  pub low : (d : ℕ) → d < domain_count (order_setup system) →
+  pub low : (d : ℕ) → d < domain_count (setup_of system inputs) →
       since d + 2 * length left ≤ 2 * length turns
 
 -- a domain of the system before its first tick
@@ -125,4 +126,4 @@ pub record IsNew (system : System) (d : ℕ) (v : DomainView) : Type 0 where
   pub lists : length v.joins ≡ length (ends_of (tables_of system) d)
   pub joins : (n : ℕ) → joins_at v.joins n ≡ []
   pub standing : (n : ℕ) → get_or v.standing n false ≡ false
-  pub state : state_of v ≡ start_of (order_setup system) d
+  pub state : (inputs : Inputs) → state_of v ≡ start_of (setup_of system inputs) d

@@ -2,7 +2,7 @@
 
 ghost use Rattle.std.specs.Prelude.{◌≡◌, ◌<◌, ◌≤◌, ◌+◌, ◌++◌, ◌∷◌, [], length, IfOk};
 ghost use Rattle.std.specs.Prelude.{vec_len, vec_capacity};
-ghost use Rattle.kernel_rules.specs.definitions.LegalTick.{no_inputs};
+ghost use Rattle.signal_store.specs.definitions.Handed.{handed};
 ghost use Rattle.tick_log.specs.definitions.Holding.{run_state, HoldsRun};
 ghost use Rattle.gals_core.specs.definitions.OrderPlans.{AreDomainsOf, AreBudgets, FitBudgets};
 ghost use Rattle.gals_core.specs.definitions.OrderRuns.{IsOrderRun};
@@ -14,6 +14,7 @@ use crate::turns::take_turns;
 use domain_core::Domain;
 use java_values::NoMemory;
 use kernel_terms::System;
+use signal_store::Inputs;
 use std::alloc::Global;
 use std::marker::Model;
 use std::snapshot::Snapshot;
@@ -86,13 +87,13 @@ fn into_logs(domains: Vec<Domain>, room: Vec<Log>) -> Vec<Log>
     logs
 }
 
-/// The run in which the domains take these turns, none more than its number of ticks. The turn of
-/// an ended domain is skipped, and after each tick the domain's channels whose two ends wait are
-/// joined, the smallest number first. It takes no memory.
-pub fn run_order(system: &System, plan: OrderPlan, turns: &[u32]) -> Run
+/// The run in which the domains take these turns with what is handed in, none more than its number
+/// of ticks. The turn of an ended domain is skipped, and after each tick the domain's channels whose
+/// two ends wait are joined, the smallest number first. It takes no memory.
+pub fn run_order(system: &System, plan: OrderPlan, turns: &[u32], inputs: &Inputs) -> Run
     requires system { plan.system ≡ system.now }
     requires turns { FitBudgets plan.ticks turns.now }
-    ensures run { IsOrderRun system.now no_inputs turns.now (run_state result) }
+    ensures run { IsOrderRun system.now (handed inputs.now) turns.now (run_state result) }
     ensures holds { HoldsRun system.now result }
 {
     let OrderPlan {
@@ -101,7 +102,7 @@ pub fn run_order(system: &System, plan: OrderPlan, turns: &[u32]) -> Run
         logs,
         ..
     } = plan;
-    take_turns(system, turns, &mut domains, &mut channels);
+    take_turns(system, turns, inputs, &mut domains, &mut channels);
     Run {
         domains: into_logs(domains, logs),
         channels: channels.into_histories(),

@@ -13,6 +13,7 @@ use java_values::{Kind, NoMemory, Text};
 use kernel_terms::{
     ChannelInfo, Combine, Expr, ExprForm, Form, SignalInfo, Sort, System, Tables, Term,
 };
+use signal_store::Inputs;
 use sqlite_items::Items;
 use std::alloc::Global;
 use std::test::Fail;
@@ -125,7 +126,7 @@ fn run_of(alloc: Global, system: &System, turns: &[u32]) -> Result<Run, Fail>
     let second = compile(alloc, system, 1)?;
     let domains = vec![in alloc; first, second]?;
     let plan = OrderPlan::open(alloc, system, domains, &[3, 2])?;
-    Ok(run_order(system, plan, turns))
+    Ok(run_order(system, plan, turns, &Inputs::new(alloc)))
 }
 
 fn turns_fit_budgets(turns: &[u32])

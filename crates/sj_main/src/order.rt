@@ -6,7 +6,9 @@ ghost use Rattle.sj_io.specs.definitions.Causes.{Rose};
 ghost use Rattle.sj_io.specs.definitions.Files.{CountsStay};
 ghost use Rattle.tick_log.specs.definitions.Holding.{run_state, HoldsRun};
 ghost use Rattle.domain_core.specs.definitions.step.Compiling.{CanCompile};
-ghost use Rattle.gals_core.specs.definitions.OrderPlans.{AreDomainsOf};
+ghost use Rattle.kernel_rules.specs.definitions.LegalTick.{no_inputs};
+ghost use Rattle.gals_core.specs.definitions.OrderPlans.{AreDomainsOf, FitBudgets};
+ghost use Rattle.gals_core.specs.definitions.OrderRuns.{IsOrderRun};
 ghost use Rattle.sj_main.specs.CommandWords.{AreFew};
 ghost use Rattle.sj_main.specs.OrderSteps.{IsMadeFrom, IsWhyNotMade, RunsTurns, IsWhyNoRun};
 
@@ -16,6 +18,7 @@ use domain_core::{CompileError, Domain, compile};
 use gals_core::{OrderPlan, run_order};
 use java_values::NoMemory;
 use kernel_terms::System;
+use signal_store::Inputs;
 use sj_accept::{AcceptError, MOST_SOURCE_BYTES, Refusal, accept};
 use sj_io::{Files, ReadError, read_all};
 use std::alloc::Global;
@@ -90,6 +93,17 @@ fn compile_all(alloc: Global, system: &System) -> Result<Vec<Domain>, NoMemory>
     Ok(domains)
 }
 
+// The run of the turns, to which nothing is handed in.
+fn run_plan(alloc: Global, system: &System, plan: OrderPlan, turns: &[u32]) -> Run
+    requires system { plan.system ≡ system.now }
+    requires turns { FitBudgets plan.ticks turns.now }
+    ensures run { IsOrderRun system.now no_inputs turns.now (run_state result) }
+    ensures holds { HoldsRun system.now result }
+{
+    let inputs = Inputs::new(alloc);
+    run_order(system, plan, turns, &inputs)
+}
+
 // The run of the turns of a system, whose memory is taken before its first tick.
 #[tactic(auto, using(crate::proofs::OrderLemmas::running))]
 fn run_of(alloc: Global, system: &System, turns: &Turns) -> Result<Run, OrderError>
@@ -111,10 +125,10 @@ fn run_of(alloc: Global, system: &System, turns: &Turns) -> Result<Run, OrderErr
     let domains = compile_all(alloc, system)?;
     let plan = OrderPlan::open(alloc, system, domains, &budgets)?;
     match turns {
-        Turns::Each(each) => Ok(run_order(system, plan, each.as_slice())),
+        Turns::Each(each) => Ok(run_plan(alloc, system, plan, each.as_slice())),
         Turns::Rounds(rounds) => {
             let list = list_rounds(alloc, *rounds, count)?;
-            Ok(run_order(system, plan, &list))
+            Ok(run_plan(alloc, system, plan, &list))
         }
     }
 }

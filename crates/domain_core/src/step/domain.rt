@@ -5,7 +5,7 @@ ghost use Rattle.kernel_terms.specs.Limits.{most_domains, most_channels, most_si
 ghost use Rattle.kernel_terms.specs.Systems.{tables_of, domains_of};
 ghost use Rattle.kernel_terms.specs.TableEntries.{variables_of};
 ghost use Rattle.kernel_terms.specs.Marks.{Going, Ended, is_over};
-ghost use Rattle.kernel_rules.specs.definitions.LegalTick.{no_inputs};
+ghost use Rattle.signal_store.specs.definitions.Handed.{handed};
 ghost use Rattle.domain_core.specs.equations.BuiltForms.{plain};
 ghost use Rattle.domain_core.specs.equations.BuiltLimits.{CanBuild};
 ghost use Rattle.kernel_terms.specs.Built.{is_built};
@@ -26,6 +26,7 @@ use crate::step::parts::{
 use cell_core::Ends;
 use java_values::NoMemory;
 use kernel_terms::{System, Term};
+use signal_store::Inputs;
 use std::alloc::Global;
 use std::marker::Model;
 use std::snapshot::Snapshot;
@@ -210,16 +211,16 @@ impl Domain {
         &self.program.ends
     }
 
-    /// Recalls each end that stands, makes the next tick, and offers each end that waits after it; or
-    /// stops, where the tick's stamp would be 2^62 or more. It takes no memory.
-    pub fn step<E: Ends>(&mut self, ends: &mut E) -> Stepped
+    /// Recalls each end that stands, makes the next tick with what is handed in, and offers each end
+    /// that waits after it; or stops, where the tick's stamp would be 2^62 or more. It takes no memory.
+    pub fn step<E: Ends>(&mut self, ends: &mut E, inputs: &Inputs) -> Stepped
         requires going { self.old.log.mark ≡ Going }
         requires running { self.old.stopped ≡ false }
         requires spare { 1 ≤ self.old.spare }
         requires count { E.count ends.old ≡ length (ends_in self.old) }
         requires fits { (n : ℕ) → n < length (ends_in self.old) →
             FitsEnd self.old n (E.end_at ends.old n) }
-        ensures step { IsStep E.moved no_inputs ends.old ends.new self.old self.new result }
+        ensures step { IsStep E.moved (handed inputs.now) ends.old ends.new self.old self.new result }
         ensures count { E.count ends.new ≡ E.count ends.old }
         ensures leaves { (n : ℕ) → n < length (ends_in self.old) →
             LeavesEnd self.new n (E.end_at ends.old n) (E.end_at ends.new n) }

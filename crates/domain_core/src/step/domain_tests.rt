@@ -14,6 +14,7 @@ use java_values::{Kind, NoMemory, Text};
 use kernel_terms::{
     ChannelInfo, Combine, Expr, ExprForm, Form, SignalInfo, Sort, System, Tables, Term,
 };
+use signal_store::Inputs;
 use sqlite_items::Items;
 use std::alloc::Global;
 use std::test::Fail;
@@ -172,15 +173,15 @@ fn receiving_domain(alloc: Global) -> Result<Domain, CompileError>
 }
 
 // The second step, where the first pauses.
-fn second_step(domain: &mut Domain, end: &mut ScriptedEnd) -> Option<Stepped>
+fn second_step(domain: &mut Domain, end: &mut ScriptedEnd, inputs: &Inputs) -> Option<Stepped>
     requires domain { IsReceiving domain.old }
     requires end { end.old.offered ≡ None }
     ensures { length (ends_in domain.new) ≡ 1 }
 {
-    if domain.step(end) != Stepped::Paused {
+    if domain.step(end, inputs) != Stepped::Paused {
         return None;
     }
-    Some(domain.step(end))
+    Some(domain.step(end, inputs))
 }
 
 #[test]
@@ -199,7 +200,8 @@ fn no_tick_has_a_stamp_past_the_limit(rt: HostRuntime) -> Result<(), Fail> {
             theirs,
             offered: None,
         };
-        assert_eq!(rt; second_step(&mut domain, &mut end), Some(want));
+        let inputs = Inputs::new(rt.alloc());
+        assert_eq!(rt; second_step(&mut domain, &mut end, &inputs), Some(want));
         assert_eq!(rt; domain.log().len(), ticks);
         assert_eq!(rt; domain.stamp(), stamp);
         let joined = Joined {

@@ -12,7 +12,7 @@ use Rattle.kernel_terms.specs.TableEntries.{channel_at, interface_of, is_interfa
 use Rattle.kernel_terms.specs.Statements as rules
 use Rattle.kernel_terms.specs.Marks.{Going, Ended, is_over}
 use Rattle.kernel_rules.specs.definitions.Registers.{residual, registers as all_registers, domain_registers, FitRegisters, variables_held, values_held, last_held}
-use Rattle.kernel_rules.specs.definitions.LegalTick.{DomainState, IsLegalTick, no_inputs}
+use Rattle.kernel_rules.specs.definitions.LegalTick.{DomainState, Inputs, IsLegalTick}
 use Rattle.tick_log.specs.definitions.Runs.{statuses_of}
 use Rattle.tick_log.specs.definitions.Containers.{LogState}
 use Rattle.tick_log.specs.definitions.RunText.{interface_signals}
@@ -286,8 +286,8 @@ module _ {S : Type 0} (moved : S → ℕ → CellMove → Option Joined → S �
       log_signals = keeps.log_signals;
     }
 
-    pub stop_steps : (stamp : ℕ) → stamp ≡ s1.cause + 1 → 2 ^ 62 ≤ stamp → IsStep moved no_inputs first middle v0 (view_of system d stopped log) (stepped.StampLimit stamp)
-    stop_steps stamp is limit = record {
+    pub stop_steps : (inputs : Inputs) (stamp : ℕ) → stamp ≡ s1.cause + 1 → 2 ^ 62 ≤ stamp → IsStep moved inputs first middle v0 (view_of system d stopped log) (stepped.StampLimit stamp)
+    stop_steps inputs stamp is limit = record {
       answers = answers;
       asks = [];
       replies = [];
@@ -366,11 +366,11 @@ module _ {S : Type 0} (moved : S → ℕ → CellMove → Option Joined → S �
           ap (λ v. record { statement = statement_held tables (whole source) t Going r1; variables = variables1; values = v; last = last1; ticks = t; mark = Going }) (sym (values_none tables d (whole source) r1 keeps.is_program.pure))
           ∙ found_here
 
-      legal : IsLegalTick tables no_inputs d (state_with v0 answers (state_of v0)) (statuses_of present zeros) after
-      legal =
-          subst (λ x. IsLegalTick tables no_inputs d x (statuses_of present zeros) after) before_is
-          (subst (λ x. IsLegalTick tables no_inputs d (record { statement = statement_held tables (whole source) t Going r1; variables = variables1; values = λ s. pos 0; last = last1; ticks = t; mark = Going }) x after) statuses_are
-          (tick_is_legal tables d source (statement_held tables (whole source) t Going r1) present r2 ended keeps.is_program.pure tells last1 variables1 t (interface_within tables d)))
+      legal : (inputs : Inputs) → IsLegalTick tables inputs d (state_with v0 answers (state_of v0)) (statuses_of present zeros) after
+      legal inputs =
+          subst (λ x. IsLegalTick tables inputs d x (statuses_of present zeros) after) before_is
+          (subst (λ x. IsLegalTick tables inputs d (record { statement = statement_held tables (whole source) t Going r1; variables = variables1; values = λ s. pos 0; last = last1; ticks = t; mark = Going }) x after) statuses_are
+          (tick_is_legal tables d source (statement_held tables (whole source) t Going r1) present r2 ended keeps.is_program.pure tells inputs last1 variables1 t (interface_within tables d)))
 
       fits2 : ended ≡ false → FitsAfter tables source (suc t) r2
       fits2 is = (tells.fits is, literals)
@@ -488,8 +488,8 @@ module _ {S : Type 0} (moved : S → ℕ → CellMove → Option Joined → S �
         kind_here : (k : ℕ) → k < length ends → (view middle k).kind ≡ (channel_at tables (end_at ends k).channel).kind
         kind_here k less = (recalls_here.passed k less).kind ∙ (fits_ends k less).kind
 
-        pub tick_steps : IsStep moved no_inputs first last v0 v3 (stepped_to (cond ended Ended Going))
-        tick_steps = record {
+        pub tick_steps : (inputs : Inputs) → IsStep moved inputs first last v0 v3 (stepped_to (cond ended Ended Going))
+        tick_steps inputs = record {
           answers = answers;
           asks = asks;
           replies = replies;
@@ -501,7 +501,7 @@ module _ {S : Type 0} (moved : S → ℕ → CellMove → Option Joined → S �
             limit = low;
             statuses = statuses_of present zeros;
             after = after;
-            legal = legal;
+            legal = legal inputs;
             shows = shows;
             log = logged;
             last_stamp = applies2.stamp ∙ stamp2;

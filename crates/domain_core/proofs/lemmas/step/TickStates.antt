@@ -19,7 +19,7 @@ use Rattle.kernel_terms.specs.Statements as rules
 use Rattle.kernel_rules.specs.definitions.Signals.{Emission, is_emitted, values_of, combined, combined_all, folded, shown}
 use Rattle.kernel_terms.specs.Marks.{Going, Ended}
 use Rattle.kernel_rules.specs.definitions.Registers.{residual, held_for, values_held, first_value}
-use Rattle.kernel_rules.specs.definitions.LegalTick.{DomainState, IsCoherent, IsLegalTick, emitted_status, input_status, values_after, no_inputs, is_tick_code, mark_after}
+use Rattle.kernel_rules.specs.definitions.LegalTick.{DomainState, Inputs, IsCoherent, IsLegalTick, emitted_status, input_status, values_after, is_tick_code, mark_after}
 use Rattle.tick_log.specs.definitions.Runs.{statuses_of}
 use Rattle.tick_log.specs.definitions.RunText.{interface_signals}
 use Rattle.tick_log.specs.definitions.Fits.{IsSignalValue, IsStatus, AreStatuses}
@@ -104,14 +104,15 @@ statuses_fit tables d shows pure len =
 
 module _ (tables : Tables) (d : ℕ) (p : Plain) (from : Stmt) (present : List Bool) (new : ℕ → ℤ) (ended : Bool)
     (pure : HasPureOutputs tables d) (tells : TellsTick tables (whole p) (length tables.signals) (interface_of tables d) from present new ended) where
-  coherent : (last x : ℕ → ℤ) → IsCoherent tables d (λ s. None) (λ s. pos 0) tells.env (tells.tick last x).emits
-  coherent last x s is =
+  -- whatever is handed in, since no interface signal is an input
+  coherent : (handed : ℕ → Option ℤ) (last x : ℕ → ℤ) → IsCoherent tables d handed (λ s. pos 0) tells.env (tells.tick last x).emits
+  coherent handed last x s is =
       let less = interface_below tables d s is in
       let info = signal_at tables s in
       let m = (tells.tick last x).emits in
       ap (λ b. record { present = b; value = (tells.env s).value }) (tells.emitted last x s less)
       ∙ ap (λ v. record { present = is_emitted m s; value = v }) (tells.pure s less ∙ sym (zeros_folded info (values_of s m) (pure s is).pure (zero_values s m (tells.zeros last x))))
-      ∙ sym (cond-false (is_input info.sort) (input_status None (pos 0)) (emitted_status info s (pos 0) m) (pure s is).output)
+      ∙ sym (cond-false (is_input info.sort) (input_status (handed s) (pos 0)) (emitted_status info s (pos 0) m) (pure s is).output)
 
   zero_after : (s : ℕ) → values_after tables d tells.env (λ s. pos 0) s ≡ pos 0
   zero_after s = at_signal (is_interface_of d (signal_at tables s)) refl
@@ -156,11 +157,11 @@ module _ (tables : Tables) (d : ℕ) (p : Plain) (from : Stmt) (present : List B
     mark = cond ended Ended Going;
   }
 
-  pub tick_is_legal : (last x : ℕ → ℤ) (n : ℕ) →
+  pub tick_is_legal : (inputs : Inputs) (last x : ℕ → ℤ) (n : ℕ) →
       ((k : ℕ) (e : ℕ) → k < length (interface_of tables d) → get_or (interface_of tables d) k e < length tables.signals) →
-      IsLegalTick tables no_inputs d (record { statement = from; variables = x; values = λ s. pos 0; last = last; ticks = n; mark = Going })
+      IsLegalTick tables inputs d (record { statement = from; variables = x; values = λ s. pos 0; last = last; ticks = n; mark = Going })
       (statuses_of present (replicate (length (interface_of tables d)) (pos 0))) (after_tick last x n)
-  tick_is_legal last x n below =
+  tick_is_legal inputs last x n below =
       let o = tells.tick last x in
       let code = code_is last x in
       record {
@@ -168,7 +169,7 @@ module _ (tables : Tables) (d : ℕ) (p : Plain) (from : Stmt) (present : List B
         env = tells.env;
         tick = o;
         ticks = tells.ticks last x;
-        coherent = coherent last x;
+        coherent = coherent (λ s. inputs s (suc n)) last x;
         code = subst (λ k. is_tick_code k ≡ true) (sym code) (low ended);
         shows = ap (λ l. statuses_of l (replicate (length (interface_of tables d)) (pos 0))) tells.shows ∙ shown_all (interface_of tables d) below;
         next =

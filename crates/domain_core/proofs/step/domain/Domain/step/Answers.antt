@@ -2,7 +2,7 @@ use Rattle.std.proofs.Common.{◌≡◌, ◌<◌, ◌≤◌, ◌+◌, ℕ, lengt
 use Rattle.domain_core.specs.definitions.step.EndCalls.{end_at}
 use Rattle.domain_core.specs.step.EndPlaces.{ask_of}
 use Rattle.kernel_terms.specs.Marks.{Going, Ended}
-use Rattle.kernel_rules.specs.definitions.LegalTick.{no_inputs}
+use Rattle.signal_store.specs.definitions.Handed.{handed}
 use Rattle.domain_core.specs.declared.step.outcome.Stepped.TheVariants as stepped
 use Rattle.domain_core.specs.declared.step.parts.State.{State}
 use Rattle.domain_core.specs.declared.step.parts.Scratch.{Scratch}
@@ -46,9 +46,9 @@ returns-then-stamp-clause-step g c =
     let p = c.recall_phase in
     let applies : Applies x.program x.state p.new.state p.new.answers.items (length x.log.entries) = subst (Applies x.program x.state p.new.state p.new.answers.items) c.len-ticks.ensures p.ensures.applies in
     let stopped : State = record { registers = p.new.state.registers; standing = c.stand_none.new.standing; joins = p.new.state.joins; stamp = p.new.state.stamp; cause = p.new.state.cause; stopped = true } in
-    subst (λ v. IsStep E.moved no_inputs c.args.ends.now p.new.ends v (view_of x.system.value x.domain stopped x.log) (stepped.StampLimit (p.new.state.cause + 1))) c.self.view_is
+    subst (λ v. IsStep E.moved (handed c.args.inputs.now) c.args.ends.now p.new.ends v (view_of x.system.value x.domain stopped x.log) (stepped.StampLimit (p.new.state.cause + 1))) c.self.view_is
     (stop_steps E.moved E.count E.end_at x.system.value x.domain x.program x.state p.new.state x.scratch x.log p.new.answers.items c.args.ends.now p.new.ends c.self.invariant going running fits p.ensures.recalls applies
-    stopped refl refl refl refl refl c.stand_none.ensures.standing (c.stand_none.ensures.len ∙ ap length p.ensures.standing) (p.new.state.cause + 1) refl c.if-stamp.true)
+    stopped refl refl refl refl refl c.stand_none.ensures.standing (c.stand_none.ensures.len ∙ ap length p.ensures.standing) (handed c.args.inputs.now) (p.new.state.cause + 1) refl c.if-stamp.true)
 
 pub offer_phase-requires-clause-room : goal.offer_phase-requires-clause-room
 offer_phase-requires-clause-room g c =
@@ -146,12 +146,12 @@ returns-clause-step g c =
     ∙ ap (λ l. cond k.result None (ask_of x.program.codes.places.items i (end_at x.program.ends.items i).side (register_at l))) c.deref-3.ensures.value in
     let o = c.offer_phase in
     let applies2 : Applies x.program two o.new.state o.new.replies.items (length c.push.new.self.entries) = subst (Applies x.program two o.new.state o.new.replies.items) c.len-made.ensures o.ensures.applies in
-    subst (λ r. IsStep E.moved no_inputs c.args.ends.now o.new.ends c.args.self.now (view_of x.system.value x.domain o.new.state c.push.new.self) r) (sym c.stepped_to.ensures)
-    (subst (λ v. IsStep E.moved no_inputs c.args.ends.now o.new.ends v (view_of x.system.value x.domain o.new.state c.push.new.self) (stepped_to (cond k.result Ended Going))) c.self.view_is
+    subst (λ r. IsStep E.moved (handed c.args.inputs.now) c.args.ends.now o.new.ends c.args.self.now (view_of x.system.value x.domain o.new.state c.push.new.self) r) (sym c.stepped_to.ensures)
+    (subst (λ v. IsStep E.moved (handed c.args.inputs.now) c.args.ends.now o.new.ends v (view_of x.system.value x.domain o.new.state c.push.new.self) (stepped_to (cond k.result Ended Going))) c.self.view_is
     (tick_steps E.moved E.count E.end_at x.system.value x.domain x.program x.state p.new.state x.scratch x.log p.new.answers.items c.args.ends.now p.new.ends c.self.invariant going running fits p.ensures.recalls applies
     two o.new.state c.push.new.self c.deref.result.now c.deref-2.result.now c.deref-4.result.now o.new.replies.items o.new.ends k.result (p.new.state.cause + 1)
     room made k.ensures.registers refl refl refl refl (ap length p.ensures.standing ∙ c.self.invariant.parts.standing) refl c.if-stamp.false
-    (c.deref-2.ensures.value ∙ m.zeros) c.push.ensures asked o.ensures.offers applies2 o.ensures.standing o.ensures.length))
+    (c.deref-2.ensures.value ∙ m.zeros) c.push.ensures asked o.ensures.offers applies2 o.ensures.standing o.ensures.length (handed c.args.inputs.now)))
 
 pub returns-clause-leaves : goal.returns-clause-leaves
 returns-clause-leaves g c =
