@@ -24,3 +24,5 @@ pub mod StampAnswers
 pub mod StateAnswers
 pub mod StateJoins
 pub mod TickStates
+pub mod StatementPlaces
+pub mod StatementJoins

@@ -47,7 +47,7 @@ met_put_at t p r l v on ne =
     by_test true = put_swap r l p.met v (pos 1) ne
     by_test false = refl
 
-rise_within : (n m : ℕ) (ps : List EndPlace) → Rise n ps m → n ≤ m
+pub rise_within : (n m : ℕ) (ps : List EndPlace) → Rise n ps m → n ≤ m
 rise_within n m [] h = h
 rise_within n m (p ∷ ps) h = let x = rise_within (p.on + 2) m ps h.2 in omega (arith, x, h.0)
 
@@ -192,11 +192,11 @@ module _ (places : List EndPlace) (last : List ℕ) (ends : List EndOf) (answers
       ∙ sym (one_pass (length ends) r (omega arith))
 
 -- the registers of the places of a statement rise
-rise_lower : (n m k : ℕ) (ps : List EndPlace) → n ≤ m → Rise m ps k → Rise n ps k
+pub rise_lower : (n m k : ℕ) (ps : List EndPlace) → n ≤ m → Rise m ps k → Rise n ps k
 rise_lower n m k [] le h = omega (arith, le, h)
 rise_lower n m k (p ∷ ps) le h = (omega (arith, le, h.0), h.1, h.2)
 
-rise-append : (a b : List EndPlace) (n m k : ℕ) → Rise n a m → Rise m b k → Rise n (a ++ b) k
+pub rise-append : (a b : List EndPlace) (n m k : ℕ) → Rise n a m → Rise m b k → Rise n (a ++ b) k
 rise-append [] b n m k x y = rise_lower n m k b x y
 rise-append (p ∷ a) b n m k x y = (x.0, x.1, rise-append a b (p.on + 2) m k x.2 y)
 
