@@ -26,3 +26,6 @@ pub mod StateJoins
 pub mod TickStates
 pub mod StatementPlaces
 pub mod StatementJoins
+pub mod StatementAsks
+pub mod SourceEnds
+pub mod StatementStates
