@@ -1,11 +1,12 @@
 -- What answered joins do to the registers of any source, and to the state that they stand for.
-use Rattle.std.proofs.Common.{◌≡◌, ◌≢◌, ℕ, zero, suc, ◌+◌, ◌<◌, ◌≤◌, ℤ, true, cond, List, length, get_or, Option, Some, None, refl, sym, ap, ◌∙◌, inr, arith}
+use Rattle.std.proofs.Common.{◌≡◌, ◌≢◌, ℕ, zero, suc, ◌+◌, ◌<◌, ◌≤◌, ℤ, Bool, true, false, cond, List, length, get_or, Option, Some, None, refl, sym, ap, ◌∙◌, inr, arith}
 use Rattle.std.specs.Prelude.{◌&&◌, ◌==◌}
+use Rattle.std.proofs.lemmas.List.FromFn.{length-range_with_len, get_or-range_with_len}
 use Rattle.kernel_terms.specs.declared.tables.Tables.{Tables}
-use Rattle.kernel_terms.specs.TableEntries.{channel_at}
-use Rattle.kernel_terms.specs.Statements.{Stmt}
-use Rattle.kernel_terms.specs.Marks.{Going}
-use Rattle.kernel_rules.specs.definitions.Registers.{registers, residual, FitRegisters, first_last, variables_held, values_held, last_held}
+use Rattle.kernel_terms.specs.TableEntries.{channel_at, received_by}
+use Rattle.kernel_terms.specs.Statements.{Stmt, Nothing}
+use Rattle.kernel_terms.specs.Marks.{Going, Ended}
+use Rattle.kernel_rules.specs.definitions.Registers.{registers, residual, FitRegisters, domain_registers, first_last, variables_held, values_held, last_held}
 use Rattle.kernel_rules.specs.definitions.Signals.{put_at}
 use Rattle.cell_core.specs.declared.moves.Side.{Side}
 use Rattle.cell_core.specs.declared.moves.Side.TheVariants.{Sender, Receiver}
@@ -16,14 +17,16 @@ use Rattle.domain_core.specs.definitions.runs.Systems.{rewritten}
 use Rattle.domain_core.specs.definitions.step.EndCalls.{end_at}
 use Rattle.domain_core.specs.definitions.step.EndRegisters.{end_places, last_places, receivers_before, met, with_last, joined_at, registers_joined}
 use Rattle.domain_core.specs.definitions.step.Domains.{ends_of, is_receiver, state_held}
+use Rattle.domain_core.specs.definitions.step.Steps.{IsAsk}
 use Rattle.domain_core.specs.step.Answers.{side_done, end_done, with_answers, no_channel}
-use Rattle.domain_core.specs.step.EndPlaces.{HaveOwnRegisters}
+use Rattle.domain_core.specs.step.EndPlaces.{ask_of, PlacesFit, HaveOwnRegisters}
 use Rattle.domain_core.specs.step.StatementEnds.{HaveEnds, NoneWaits}
-use Rattle.domain_core.proofs.lemmas.step.LastValues.{variables_same, values_same, last_same, last_put, last_apart}
-use Rattle.domain_core.proofs.lemmas.step.StateAnswers.{same_state}
+use Rattle.domain_core.proofs.lemmas.step.LastValues.{count_registers, variables_same, values_same, last_same, last_put, last_apart}
+use Rattle.domain_core.proofs.lemmas.step.StateAnswers.{same_state, with_none, joined_none}
 use Rattle.domain_core.proofs.lemmas.step.StateJoins.{ends_apart}
+use Rattle.domain_core.proofs.lemmas.step.StatementAsks.{nothing_asks, fit_asks}
 use Rattle.domain_core.proofs.lemmas.step.StatementJoins.{fit_alike, alike, sends_at, completes_met, fit_met}
-use Rattle.domain_core.proofs.lemmas.step.StatementPlaces.{SameBetween, met_outside, places_rise}
+use Rattle.domain_core.proofs.lemmas.step.StatementPlaces.{SameBetween, met_outside, places_rise, places_fit, receives_some}
 
 module _ (tables : Tables) (d : ℕ) (p : Stmt) (channels : (c : ℕ) → c < length tables.channels → (channel_at tables c).sender ≢ (channel_at tables c).receiver) (has : HaveEnds (ends_of tables d) p)
     (none : NoneWaits p) where
@@ -113,3 +116,40 @@ module _ (tables : Tables) (d : ℕ) (p : Stmt) (channels : (c : ℕ) → c < le
   state_joins answers (suc n) t r fits within =
       state_join n t (get_or answers n None) (registers_joined places last ends answers n r) (fit_all answers n r (omega (arith, within)) fits) (omega (arith, within))
       ∙ ap (end_done (end_at ends n) (get_or answers n None)) (state_joins answers n t r fits (omega (arith, within)))
+
+  -- after all answers, in a domain that goes on, which before its first tick has none
+  pub answers_state : (answers : List (Option Joined)) (ticks : ℕ) (r : ℕ → ℤ) → (0 < ticks → FitRegisters tables p 0 r) → (ticks ≡ 0 → (k : ℕ) → k < length ends → get_or answers k None ≡ None) →
+      state_held tables d p ticks Going (registers_joined places last ends answers (length ends) r) ≡ with_answers ends answers (length ends) (state_held tables d p ticks Going r)
+  answers_state answers zero r fits no_answer =
+      ap (state_held tables d p 0 Going) (joined_none ends answers places last (length ends) r (no_answer refl)) ∙ sym (with_none ends answers (length ends) (state_held tables d p 0 Going r) (no_answer refl))
+  answers_state answers (suc t) r fits no_answer = state_joins answers (length ends) t r (fits (omega arith)) (omega arith)
+
+  -- and in one that may have ended in its last tick
+  pub replies_state : (answers : List (Option Joined)) (t : ℕ) (ended : Bool) (r : ℕ → ℤ) → (ended ≡ false → FitRegisters tables p 0 r) → (ended ≡ true → (k : ℕ) → k < length ends → get_or answers k None ≡ None) →
+      state_held tables d p (suc t) (cond ended Ended Going) (registers_joined places last ends answers (length ends) r)
+      ≡ with_answers ends answers (length ends) (state_held tables d p (suc t) (cond ended Ended Going) r)
+  replies_state answers t true r fits no_answer =
+      ap (state_held tables d p (suc t) Ended) (joined_none ends answers places last (length ends) r (no_answer refl)) ∙ sym (with_none ends answers (length ends) (state_held tables d p (suc t) Ended r) (no_answer refl))
+  replies_state answers t false r fits no_answer = state_joins answers (length ends) t r (fits refl) (omega arith)
+
+  -- what the ends ask after a tick
+  pub asked_after : (k : ℕ) (new : ℕ → ℤ) (ended : Bool) → k < length ends → (ended ≡ false → FitRegisters tables p 0 new) →
+      IsAsk (end_at ends k) (cond ended Nothing (residual tables p 0 new)) (cond ended None (ask_of places k (end_at ends k).side new))
+  asked_after k new true within fits = nothing_asks (end_at ends k)
+  asked_after k new false within fits = fit_asks tables ends (ends_apart tables d) k within p 0 new has none (fits refl)
+
+  -- each place has registers of its own, and those of the last values are behind all places
+  pub own_registers : HaveOwnRegisters places last
+  own_registers = record {
+    bound = 0 + registers tables p;
+    rise = places_rise tables ends p 0;
+    behind = λ i less.
+        let low : i < length (received_by tables d) = omega (arith, less, length-range_with_len (first_last tables d p) (length (received_by tables d))) in
+        omega (arith, get_or-range_with_len (first_last tables d p) (length (received_by tables d)) i 0 low);
+  }
+
+  -- and there are registers for all of them
+  pub all_fit : (n : ℕ) → n ≡ length (domain_registers tables d p) → PlacesFit places (length ends) n
+  all_fit n count =
+      let all = count_registers tables d p in
+      places_fit tables ends p 0 n has (omega (arith, count, all)) (λ r. let some = receives_some tables d channels p has r in omega (arith, count, all, some))
