@@ -1,6 +1,7 @@
 pub mod AnswerFacts
 pub mod AnswersFound
 pub mod AskPasses
+pub mod BuiltJoins
 pub mod ChannelEnds
 pub mod CompilableDomains
 pub mod CompileLists
@@ -14,8 +15,6 @@ pub mod OwnEnds
 pub mod NoJoins
 pub mod PhaseStates
 pub mod PhaseTicks
-pub mod ResidualAsks
-pub mod ResidualJoins
 pub mod RoundOfStep
 pub mod RoundParts
 pub mod RoundsBegin

@@ -11,11 +11,10 @@ use Rattle.kernel_terms.specs.Statements.{Stmt, Nothing, Pause, Emit, Assign, If
 use Rattle.kernel_terms.specs.WellFormed.{Scope, fits_statement, fits_test, is_given, is_local_of}
 use Rattle.kernel_rules.specs.definitions.LegalTick.{no_inputs}
 use Rattle.cell_core.specs.declared.moves.Side.TheVariants.{Sender, Receiver}
-use Rattle.domain_core.specs.definitions.runs.Systems.{source_of, setup_of, IsFresh}
+use Rattle.domain_core.specs.definitions.runs.Systems.{source_of, setup_of, IsSystem, IsFresh}
 use Rattle.domain_core.specs.definitions.step.Domains.{ends_of}
 use Rattle.domain_core.specs.step.StatementEnds.{HaveEnds, NoneWaits}
-use Rattle.domain_core.proofs.lemmas.runs.WellFormedSystems.{left, right, source_fits, system_is_fresh}
-use Rattle.domain_core.proofs.lemmas.step.CompilableDomains.{channels_apart}
+use Rattle.domain_core.proofs.lemmas.runs.WellFormedSystems.{left, right, source_fits, system_is_fresh, system_joins}
 use Rattle.domain_core.proofs.lemmas.step.OwnEnds.{has_own_end}
 
 module _ (t : Tables) (apart : (c : ℕ) → c < length t.channels → (channel_at t c).sender ≢ (channel_at t c).receiver) where
@@ -53,6 +52,10 @@ module _ (t : Tables) (apart : (c : ℕ) → c < length t.channels → (channel_
   ends_there scope (Sent c) h = tt
   ends_there scope (ReceiveWaits c) h = tt
   ends_there scope (Received c) h = tt
+
+-- no channel joins a domain with itself
+pub channels_apart : (system : System) (c : ℕ) → c < length (tables_of system).channels → (channel_at (tables_of system) c).sender ≢ (channel_at (tables_of system) c).receiver
+channels_apart system c less = let h : IsSystem (setup_of system no_inputs) = system_joins system no_inputs in h.apart c less
 
 pub source_ends : (system : System) (d : ℕ) → d < length (domains_of system) → HaveEnds (ends_of (tables_of system) d) (source_of system d)
 source_ends system d within =

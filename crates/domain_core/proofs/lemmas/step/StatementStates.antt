@@ -48,7 +48,7 @@ module _ (tables : Tables) (d : ℕ) (p : Stmt) (channels : (c : ℕ) → c < le
       by_side Receiver is =
           ap (λ s. cond (is_receiver s) (put_at f (get_or last (receivers_before ends n) 0) v) f m) is ∙ last_apart tables d p channels n within is f v m low
 
-  kept_below : (n : ℕ) → n < length ends → (v : ℤ) (f : ℕ → ℤ) → SameBetween 0 (0 + registers tables p) (with_last ends last n v f) f
+  pub kept_below : (n : ℕ) → n < length ends → (v : ℤ) (f : ℕ → ℤ) → SameBetween 0 (0 + registers tables p) (with_last ends last n v f) f
   kept_below n within v f k low high = kept_last n within v f k (omega (arith, high))
 
   -- the registers of a domain that goes on fit after the joins of the first so many ends
