@@ -1,6 +1,7 @@
 -- The places of any statement's sends and receives, and what a join writes there.
 use Rattle.std.proofs.Common.{◌≡◌, ◌≢◌, ℕ, zero, suc, ◌+◌, ◌<◌, ◌≤◌, ℤ, pos, Bool, true, false, cond, List, [], ◌∷◌, ◌++◌, length, get_or, refl, sym, ap, ◌∙◌, subst, inl, inr, ◌⊎◌, arith, length-append}
 use Rattle.std.specs.Prelude.{◌&&◌, ◌==◌}
+use Rattle.std.proofs.lemmas.Bool.{ne_eqb}
 use Rattle.java_values.specs.Arithmetic.{is_true}
 use Rattle.kernel_terms.specs.declared.tables.Tables.{Tables}
 use Rattle.kernel_terms.specs.TableEntries.{signal_at, channel_at, received_by}
@@ -71,6 +72,41 @@ met_second a b n m l e f g first second same k low high =
     let begin = rise_within n m a first in
     same k (omega (arith, low, begin)) high ∙ ap (λ h. h k) (met-append a b e f)
     ∙ met_inside b m l e (met a e f) f second (λ i above below. met_outside a n m e f i first (inr above)) k low high
+
+-- the place of a number among places that rise
+record RisesAt (n : ℕ) (p : EndPlace) : Type 0 where
+  low : n ≤ p.on
+  behind : p.met ≡ p.on + 1
+
+rises_at : (ps : List EndPlace) (n m i : ℕ) (q : EndPlace) → Rise n ps m → i < length ps → RisesAt n (get_or ps i q)
+rises_at [] n m i q rise less = absurd (omega (arith, less))
+rises_at (p ∷ ps) n m zero q rise less = record { low = rise.0; behind = rise.1 }
+rises_at (p ∷ ps) n m (suc i) q rise less = let x = rises_at ps (p.on + 2) m i q rise.2 (omega (arith, less)) in record { low = omega (arith, x.low, rise.0); behind = x.behind }
+
+-- a join of one end changes nothing at the places of the others
+pub record Stays (p : EndPlace) (f g : ℕ → ℤ) : Type 0 where
+  pub on : g p.on ≡ f p.on
+  pub met : g p.met ≡ f p.met
+
+met_other : (e : ℕ) (p : EndPlace) (f : ℕ → ℤ) → p.which ≢ e → met_at e p f ≡ f
+met_other e p f ne = ap (λ t. cond (t && is_true (f p.on)) (put_at f p.met (pos 1)) f) (ne_eqb p.which e ne)
+
+pub others_stay : (ps : List EndPlace) (n m e : ℕ) (f : ℕ → ℤ) (i : ℕ) (q : EndPlace) → Rise n ps m → i < length ps → (get_or ps i q).which ≢ e → Stays (get_or ps i q) f (met ps e f)
+others_stay [] n m e f i q rise less ne = absurd (omega (arith, less))
+others_stay (p ∷ ps) n m e f zero q rise less ne =
+    let same = met_other e p f ne in
+    record {
+      on = met_outside ps (p.on + 2) m e (met_at e p f) p.on rise.2 (inl (omega arith)) ∙ ap (λ g. g p.on) same;
+      met = met_outside ps (p.on + 2) m e (met_at e p f) p.met rise.2 (inl (omega (arith, rise.1))) ∙ ap (λ g. g p.met) same;
+    }
+others_stay (p ∷ ps) n m e f (suc i) q rise less ne =
+    let within : i < length ps = omega (arith, less) in
+    let rest = others_stay ps (p.on + 2) m e (met_at e p f) i q rise.2 within ne in
+    let at = rises_at ps (p.on + 2) m i q rise.2 within in
+    record {
+      on = rest.on ∙ met_elsewhere e p f (get_or ps i q).on (omega (arith, at.low, rise.1));
+      met = rest.met ∙ met_elsewhere e p f (get_or ps i q).met (omega (arith, at.low, at.behind, rise.1));
+    }
 
 module _ (tables : Tables) where
   -- how many registers two parts have, and a local signal with its body
