@@ -28,3 +28,4 @@ pub mod StatementJoins
 pub mod StatementAsks
 pub mod SourceEnds
 pub mod StatementStates
+pub mod StatementValues

@@ -1,5 +1,7 @@
--- The ends of the sends and receives of any statement.
-use Rattle.std.specs.Prelude.{ℕ, ℤ, ◌⊎◌, List}
+-- The ends of the sends and receives of any statement, and the kinds of its registers' values.
+use Rattle.std.specs.Prelude.{ℕ, suc, ℤ, ◌⊎◌, List, [], ◌∷◌}
+use Rattle.java_values.specs.declared.kind.Kind.{Kind}
+use Rattle.java_values.specs.Kinds.{IsInRange}
 use Rattle.kernel_terms.specs.Statements.{Stmt, If, Present, Seq, Loop, Par, Trap, Abort, Suspend, Local, Send, Receive}
 use Rattle.cell_core.specs.declared.moves.Side.TheVariants.{Sender, Receiver}
 use Rattle.domain_core.specs.declared.step.ends_of.EndOf.{EndOf}
@@ -38,3 +40,8 @@ Receives (Suspend armed t p) = Receives p
 Receives (Local s v p) = Receives p
 Receives (Receive c) = Unit {0}
 Receives _ = ⊥
+
+-- the registers from n on have values of these kinds
+abbrev pub HoldKinds : List Kind → ℕ → (ℕ → ℤ) → Type 0
+HoldKinds [] n r = Unit {0}
+HoldKinds (k ∷ ks) n r = IsInRange k (r n) × HoldKinds ks (suc n) r

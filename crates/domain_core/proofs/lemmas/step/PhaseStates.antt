@@ -35,6 +35,7 @@ use Rattle.domain_core.proofs.lemmas.runs.JoinedStatements.{still_sends, still_r
 use Rattle.domain_core.proofs.lemmas.step.StateJoins.{AreApart, ends_apart}
 use Rattle.domain_core.proofs.lemmas.step.BuiltJoins.{whole_waits, places_same, literals_all}
 use Rattle.domain_core.proofs.lemmas.step.StatementStates as any
+use Rattle.domain_core.proofs.lemmas.step.StatementValues.{ask_or, of_some, is_asked}
 
 -- What holds of any source holds of a built statement.
 module _ (tables : Tables) (d : ℕ) (p : Plain) (channels : (c : ℕ) → c < length tables.channels → (channel_at tables c).sender ≢ (channel_at tables c).receiver) (has : HaveEnds (ends_of tables d) (whole p)) where
@@ -47,8 +48,8 @@ module _ (tables : Tables) (d : ℕ) (p : Plain) (channels : (c : ℕ) → c < l
   abbrev joined : List (Option Joined) → (ℕ → ℤ) → ℕ → ℤ
   joined answers r = joined_in (plain_places (ends_of tables d) p 0) answers r
 
-  same : end_places tables own (whole p) 0 ≡ plain_places own p 0
-  same = places_same tables own p 0
+  places_here : end_places tables own (whole p) 0 ≡ plain_places own p 0
+  places_here = places_same tables own p 0
 
   fits_there : (ticks : ℕ) (r : ℕ → ℤ) → FitsAfter tables p ticks r → 0 < ticks → FitRegisters tables (whole p) 0 r
   fits_there zero r fits less = absurd (omega (arith, less))
@@ -58,59 +59,38 @@ module _ (tables : Tables) (d : ℕ) (p : Plain) (channels : (c : ℕ) → c < l
   pub answers_state : (answers : List (Option Joined)) (ticks : ℕ) (r : ℕ → ℤ) → FitsAfter tables p ticks r → (ticks ≡ 0 → (k : ℕ) → k < length own → get_or answers k None ≡ None) →
       state_held tables d (whole p) ticks Going (joined answers r) ≡ with_answers own answers (length own) (state_held tables d (whole p) ticks Going r)
   answers_state answers ticks r fits none =
-      subst (λ l. state_held tables d (whole p) ticks Going (joined_in l answers r) ≡ with_answers own answers (length own) (state_held tables d (whole p) ticks Going r)) same
+      subst (λ l. state_held tables d (whole p) ticks Going (joined_in l answers r) ≡ with_answers own answers (length own) (state_held tables d (whole p) ticks Going r)) places_here
       (any.answers_state tables d (whole p) channels has (whole_waits p) answers ticks r (fits_there ticks r fits) none)
 
   -- the same in one that may have ended
   pub replies_state : (answers : List (Option Joined)) (t : ℕ) (ended : Bool) (r : ℕ → ℤ) → (ended ≡ false → FitsAfter tables p (suc t) r) → (ended ≡ true → (k : ℕ) → k < length own → get_or answers k None ≡ None) →
       state_held tables d (whole p) (suc t) (cond ended Ended Going) (joined answers r) ≡ with_answers own answers (length own) (state_held tables d (whole p) (suc t) (cond ended Ended Going) r)
   replies_state answers t ended r fits none =
-      subst (λ l. state_held tables d (whole p) (suc t) (cond ended Ended Going) (joined_in l answers r) ≡ with_answers own answers (length own) (state_held tables d (whole p) (suc t) (cond ended Ended Going) r)) same
+      subst (λ l. state_held tables d (whole p) (suc t) (cond ended Ended Going) (joined_in l answers r) ≡ with_answers own answers (length own) (state_held tables d (whole p) (suc t) (cond ended Ended Going) r)) places_here
       (any.replies_state tables d (whole p) channels has (whole_waits p) answers t ended r (λ goes. let x : FitsAfter tables p (suc t) r = fits goes in x.0) none)
 
   pub answers_fit : (answers : List (Option Joined)) (ticks : ℕ) (r : ℕ → ℤ) → FitsAfter tables p ticks r → FitsAfter tables p ticks (joined answers r)
   answers_fit answers zero r fits = tt
   answers_fit answers (suc t) r fits = (
-    subst (λ l. FitRegisters tables (whole p) 0 (joined_in l answers r)) same (any.fit_all tables d (whole p) channels has (whole_waits p) answers (length own) r (omega arith) fits.0),
+    subst (λ l. FitRegisters tables (whole p) 0 (joined_in l answers r)) places_here (any.fit_all tables d (whole p) channels has (whole_waits p) answers (length own) r (omega arith) fits.0),
     literals_all tables d p channels has answers (length own) r (omega arith) fits.1,
   )
 
   -- there are registers for all places, each has its own, and those of the last values are behind them
   pub all_fit : (n : ℕ) → n ≡ length (domain_registers tables d (whole p)) → PlacesFit (plain_places own p 0) (length own) n
-  all_fit n count = subst (λ l. PlacesFit l (length own) n) same (any.all_fit tables d (whole p) channels has (whole_waits p) n count)
+  all_fit n count = subst (λ l. PlacesFit l (length own) n) places_here (any.all_fit tables d (whole p) channels has (whole_waits p) n count)
 
   pub own_registers : HaveOwnRegisters (plain_places own p 0) (last_places tables d (whole p))
-  own_registers = subst (λ l. HaveOwnRegisters l (last_places tables d (whole p))) same (any.own_registers tables d (whole p) channels has (whole_waits p))
+  own_registers = subst (λ l. HaveOwnRegisters l (last_places tables d (whole p))) places_here (any.own_registers tables d (whole p) channels has (whole_waits p))
 
   -- what the ends ask after a tick
   pub asked_after : (k : ℕ) (new : ℕ → ℤ) (ended : Bool) → k < length own → (ended ≡ false → FitRegisters tables (whole p) 0 new) →
       IsAsk (end_at own k) (cond ended rules.Nothing (residual tables (whole p) 0 new)) (cond ended None (ask_of (plain_places own p 0) k (end_at own k).side new))
   asked_after k new ended within fits =
-      subst (λ l. IsAsk (end_at own k) (cond ended rules.Nothing (residual tables (whole p) 0 new)) (cond ended None (ask_of l k (end_at own k).side new))) same
+      subst (λ l. IsAsk (end_at own k) (cond ended rules.Nothing (residual tables (whole p) 0 new)) (cond ended None (ask_of l k (end_at own k).side new))) places_here
       (any.asked_after tables d (whole p) channels has (whole_waits p) k new ended within fits)
 
 -- what a send asks is a value of its channel's kind
-ask_or : (xs ys : List EndPlace) (k : ℕ) (s : Side) (f : ℕ → ℤ) (v : ℤ) → ask_of (xs ++ ys) k s f ≡ Some v → (ask_of xs k s f ≡ Some v) ⊎ (ask_of ys k s f ≡ Some v)
-ask_or [] ys k s f v h = inr h
-ask_or (x ∷ xs) ys k s f v h = skip (waits_at k x f) (value_at s x f) (ask_of xs k s f) (ask_of (xs ++ ys) k s f) h (ask_or xs ys k s f v)
-  where
-    skip : (t : Bool) (w : ℤ) (a b : Option ℤ) → cond t (Some w) b ≡ Some v → (b ≡ Some v → (a ≡ Some v) ⊎ (ask_of ys k s f ≡ Some v)) → (cond t (Some w) a ≡ Some v) ⊎ (ask_of ys k s f ≡ Some v)
-    skip true w a b h rest = inl h
-    skip false w a b h rest = rest h
-
-of_some : (t : Bool) (w v : ℤ) → cond t (Some w) None ≡ Some v → (t ≡ true) × (w ≡ v)
-of_some true w v h = (refl, ap (λ (o : Option ℤ). unwrap_or o w) h)
-of_some false w v h = absurd (none-some v h)
-
-record IsAsked (c k : ℕ) (ends : List EndOf) (u : Bool) : Type 0 where
-  which : end_number ends c ≡ k
-  on : u ≡ true
-
-is_asked : (c k : ℕ) (ends : List EndOf) (t u w : Bool) → (end_number ends c == k) ≡ t → t && (u && w) ≡ true → IsAsked c k ends u
-is_asked c k ends true true w is h = record { which = eqb-true (end_number ends c) k is; on = refl }
-is_asked c k ends true false w is h = absurd (true≢false (sym h))
-is_asked c k ends false u w is h = absurd (true≢false (sym h))
-
 module _ (tables : Tables) (ends : List EndOf) (k : ℕ) (f : ℕ → ℤ) (v : ℤ) where
   pub ask_fits : (p : Plain) (n : ℕ) → HoldsLiteral p n f → SendsFit tables p → HaveEnds ends (whole p) → ask_of (plain_places ends p n) k (end_at ends k).side f ≡ Some v →
       ValueFits (end_at ends k).side (channel_at tables (end_at ends k).channel).kind v
