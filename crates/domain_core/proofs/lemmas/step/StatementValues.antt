@@ -1,24 +1,28 @@
--- What a send of any source asks is a value of its channel's kind, where each register has a value of its kind.
-use Rattle.std.proofs.Common.{◌≡◌, ℕ, suc, ◌+◌, ℤ, Bool, true, false, cond, List, [], ◌∷◌, ◌++◌, length, Option, Some, None, refl, sym, ap, ◌∙◌, subst, inl, inr, ◌⊎◌, arith}
+-- Registers whose values are of their kinds: what a send asks is of its channel's kind, and a join keeps them so.
+use Rattle.std.proofs.Common.{rules, ◌≡◌, ℕ, suc, ◌+◌, ◌<◌, ◌≤◌, ℤ, pos, Bool, true, false, cond, List, [], ◌∷◌, ◌++◌, length, Option, Some, None, refl, sym, ap, ◌∙◌, subst, inl, inr, ◌⊎◌, arith}
 use Rattle.std.specs.Prelude.{unwrap_or, ◌==◌, ◌&&◌, not}
 use Rattle.std.proofs.lemmas.Option.{none-some}
 use Rattle.std.proofs.lemmas.Bool.{eqb-true, true≢false}
 use Rattle.java_values.specs.declared.kind.Kind.{Kind}
+use Rattle.java_values.specs.declared.kind.Kind.TheVariants as kind
 use Rattle.java_values.specs.Kinds.{IsInRange}
 use Rattle.java_values.specs.Arithmetic.{is_true}
 use Rattle.kernel_terms.specs.declared.tables.Tables.{Tables}
 use Rattle.kernel_terms.specs.TableEntries.{signal_at, channel_at}
 use Rattle.kernel_terms.specs.Statements.{Stmt, Nothing, Pause, Emit, Assign, If, Present, Seq, Loop, Par, Trap, Exit, Abort, Suspend, Local, Send, Receive, SendWaits, Sent, ReceiveWaits, Received}
 use Rattle.kernel_rules.specs.definitions.Registers.{registers, statement_registers, value_kinds}
+use Rattle.kernel_rules.specs.definitions.Signals.{put_at}
 use Rattle.cell_core.specs.declared.moves.Side.{Side}
 use Rattle.cell_core.specs.declared.moves.Side.TheVariants.{Sender, Receiver}
 use Rattle.cell_core.specs.definitions.Ends.{ValueFits}
 use Rattle.plain_code.specs.declared.end_place.EndPlace.{EndPlace}
 use Rattle.domain_core.specs.declared.step.ends_of.EndOf.{EndOf}
 use Rattle.domain_core.specs.definitions.step.EndCalls.{end_at}
-use Rattle.domain_core.specs.definitions.step.EndRegisters.{end_number, end_places}
+use Rattle.domain_core.specs.definitions.step.EndRegisters.{end_number, end_places, met_at, met}
 use Rattle.domain_core.specs.step.EndPlaces.{waits_at, value_at, ask_of, HasEnd}
 use Rattle.domain_core.specs.step.StatementEnds.{HaveEnds, HoldKinds}
+use Rattle.domain_core.proofs.lemmas.runs.StatesBetweenTicks.{put_here}
+use Rattle.domain_core.proofs.lemmas.step.StatementPlaces.{SameBetween, met_elsewhere, met_outside, met_first, met_second, registers_both, registers_local, places_rise}
 
 -- what two parts ask one of them asks
 pub ask_or : (xs ys : List EndPlace) (k : ℕ) (s : Side) (f : ℕ → ℤ) (v : ℤ) → ask_of (xs ++ ys) k s f ≡ Some v → (ask_of xs k s f ≡ Some v) ⊎ (ask_of ys k s f ≡ Some v)
@@ -105,3 +109,99 @@ module _ (tables : Tables) (ends : List EndOf) (k : ℕ) (f : ℕ → ℤ) (v : 
   ask_fits (Sent c) n has h ask = absurd (none-some v ask)
   ask_fits (ReceiveWaits c) n has h ask = absurd (none-some v ask)
   ask_fits (Received c) n has h ask = absurd (none-some v ask)
+
+-- Registers keep values of their kinds through a join.
+
+kinds_both : (a b : List Kind) (n : ℕ) (f : ℕ → ℤ) → HoldKinds a n f → HoldKinds b (n + length a) f → HoldKinds (a ++ b) n f
+kinds_both [] b n f x y = let same : n + 0 ≡ n = omega arith in subst (λ m. HoldKinds b m f) same y
+kinds_both (k ∷ a) b n f x y = let same : n + length (k ∷ a) ≡ suc n + length a = omega arith in (x.0, kinds_both a b (suc n) f x.1 (subst (λ m. HoldKinds b m f) same y))
+
+pub kinds_same : (ks : List Kind) (n : ℕ) (f g : ℕ → ℤ) → SameBetween n (n + length ks) g f → HoldKinds ks n f → HoldKinds ks n g
+kinds_same [] n f g same h = tt
+kinds_same (k ∷ ks) n f g same h =
+    let more : n + length (k ∷ ks) ≡ suc n + length ks = omega arith in
+    (subst (IsInRange k) (sym (same n (omega arith) (omega (arith, more)))) h.0, kinds_same ks (suc n) f g (λ i low high. same i (omega (arith, low)) (omega (arith, high, more))) h.1)
+
+one_in_range : IsInRange kind.Boolean (pos 1)
+one_in_range = search rules
+
+met_flag : (e : ℕ) (p : EndPlace) (f : ℕ → ℤ) → IsInRange kind.Boolean (f p.met) → IsInRange kind.Boolean (met_at e p f p.met)
+met_flag e p f h = by ((p.which == e) && is_true (f p.on))
+  where
+    by : (t : Bool) → IsInRange kind.Boolean (cond t (put_at f p.met (pos 1)) f p.met)
+    by true = subst (IsInRange kind.Boolean) (sym (put_here f p.met (pos 1))) one_in_range
+    by false = h
+
+module _ (tables : Tables) (ends : List EndOf) (e : ℕ) where
+  abbrev HasJoin : Stmt → ℕ → (ℕ → ℤ) → (ℕ → ℤ) → Type 0
+  HasJoin p n f g = SameBetween n (n + registers tables p) g (met (end_places tables ends p n) e f)
+
+  abbrev AreKinds : Stmt → ℕ → (ℕ → ℤ) → Type 0
+  AreKinds p n f = HoldKinds (statement_registers tables p) n f
+
+  two_met : (p q : Stmt) (n : ℕ) (f g : ℕ → ℤ) → HasJoin (Seq p q) n f g → AreKinds (Seq p q) n f → (HasJoin p n f g → AreKinds p n f → AreKinds p n g) →
+      (HasJoin q (n + registers tables p) f g → AreKinds q (n + registers tables p) f → AreKinds q (n + registers tables p) g) → AreKinds (Seq p q) n g
+  two_met p q n f g join h first second =
+      let m = n + registers tables p in
+      let a = end_places tables ends p n in
+      let b = end_places tables ends q m in
+      let all : SameBetween n (m + registers tables q) g (met (a ++ b) e f) = λ k low high. join k low (omega (arith, high, registers_both tables p q)) in
+      kinds_both (statement_registers tables p) (statement_registers tables q) n g
+      (first (met_first a b n m (m + registers tables q) e f g (places_rise tables ends p n) (places_rise tables ends q m) all) (kinds_first (statement_registers tables p) (statement_registers tables q) n f h))
+      (second (met_second a b n m (m + registers tables q) e f g (places_rise tables ends p n) (places_rise tables ends q m) all) (kinds_second (statement_registers tables p) (statement_registers tables q) n f h))
+
+  pub kinds_met : (p : Stmt) (n : ℕ) (f g : ℕ → ℤ) → HasJoin p n f g → AreKinds p n f → AreKinds p n g
+  kinds_met Nothing n f g join h = tt
+  kinds_met Pause n f g join h = kinds_same (statement_registers tables Pause) n f g join h
+  kinds_met (Emit s x) n f g join h = tt
+  kinds_met (Assign y x) n f g join h = tt
+  kinds_met (If x p q) n f g join h = two_met p q n f g join h (kinds_met p n f g) (kinds_met q (n + registers tables p) f g)
+  kinds_met (Present t p q) n f g join h = two_met p q n f g join h (kinds_met p n f g) (kinds_met q (n + registers tables p) f g)
+  kinds_met (Seq p q) n f g join h = two_met p q n f g join h (kinds_met p n f g) (kinds_met q (n + registers tables p) f g)
+  kinds_met (Loop p) n f g join h = kinds_met p n f g join h
+  kinds_met (Par p q) n f g join h = two_met p q n f g join h (kinds_met p n f g) (kinds_met q (n + registers tables p) f g)
+  kinds_met (Trap p) n f g join h = kinds_met p n f g join h
+  kinds_met (Exit d) n f g join h = tt
+  kinds_met (Abort weak armed t p) n f g join h = kinds_met p n f g join h
+  kinds_met (Suspend armed t p) n f g join h = kinds_met p n f g join h
+  kinds_met (Local s v p) n f g join h =
+      let ks = value_kinds (signal_at tables s).kind in
+      let m = n + length ks in
+      let sum = registers_local tables s v p in
+      let own : SameBetween n m g f = λ k low high.
+      join k low (omega (arith, high, sum)) ∙ met_outside (end_places tables ends p m) m (m + registers tables p) e f k (places_rise tables ends p m) (inl high) in
+      let body : HasJoin p m f g = λ k low high. join k (omega (arith, low)) (omega (arith, high, sum)) in
+      kinds_both ks (statement_registers tables p) n g (kinds_same ks n f g own (kinds_first ks (statement_registers tables p) n f h)) (kinds_met p m f g body (kinds_second ks (statement_registers tables p) n f h))
+  kinds_met (Send c x) n f g join h = (at_end join h.0, (flag_end join h.1.0, (value_end join h.1.1.0, tt)))
+    where
+      place : EndPlace
+      place = record { which = end_number ends c; on = n; met = n + 1 }
+
+      at_end : SameBetween n (n + 3) g (met_at e place f) → IsInRange kind.Boolean (f n) → IsInRange kind.Boolean (g n)
+      at_end same r = subst (IsInRange kind.Boolean) (sym (same n (omega arith) (omega arith) ∙ met_elsewhere e place f n (omega arith))) r
+
+      flag_end : SameBetween n (n + 3) g (met_at e place f) → IsInRange kind.Boolean (f (suc n)) → IsInRange kind.Boolean (g (suc n))
+      flag_end same r =
+          let one : n + 1 ≡ suc n = omega arith in
+          subst (λ i. IsInRange kind.Boolean (g i)) one
+          (subst (IsInRange kind.Boolean) (sym (same (n + 1) (omega arith) (omega arith))) (met_flag e place f (subst (λ i. IsInRange kind.Boolean (f i)) (sym one) r)))
+
+      value_end : SameBetween n (n + 3) g (met_at e place f) → IsInRange (channel_at tables c).kind (f (suc (suc n))) → IsInRange (channel_at tables c).kind (g (suc (suc n)))
+      value_end same r = subst (IsInRange (channel_at tables c).kind) (sym (same (suc (suc n)) (omega arith) (omega arith) ∙ met_elsewhere e place f (suc (suc n)) (omega arith))) r
+  kinds_met (Receive c) n f g join h = (at_end join h.0, (flag_end join h.1.0, tt))
+    where
+      place : EndPlace
+      place = record { which = end_number ends c; on = n; met = n + 1 }
+
+      at_end : SameBetween n (n + 2) g (met_at e place f) → IsInRange kind.Boolean (f n) → IsInRange kind.Boolean (g n)
+      at_end same r = subst (IsInRange kind.Boolean) (sym (same n (omega arith) (omega arith) ∙ met_elsewhere e place f n (omega arith))) r
+
+      flag_end : SameBetween n (n + 2) g (met_at e place f) → IsInRange kind.Boolean (f (suc n)) → IsInRange kind.Boolean (g (suc n))
+      flag_end same r =
+          let one : n + 1 ≡ suc n = omega arith in
+          subst (λ i. IsInRange kind.Boolean (g i)) one
+          (subst (IsInRange kind.Boolean) (sym (same (n + 1) (omega arith) (omega arith))) (met_flag e place f (subst (λ i. IsInRange kind.Boolean (f i)) (sym one) r)))
+  kinds_met (SendWaits c v) n f g join h = tt
+  kinds_met (Sent c) n f g join h = tt
+  kinds_met (ReceiveWaits c) n f g join h = tt
+  kinds_met (Received c) n f g join h = tt
