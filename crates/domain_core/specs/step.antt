@@ -3,4 +3,5 @@ pub mod DomainKeeps
 pub mod EndPlaces
 pub mod JoinLists
 pub mod StepParts
+pub mod StatementEnds
 pub mod SmallDomains

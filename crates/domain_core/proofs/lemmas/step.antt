@@ -1,6 +1,7 @@
 pub mod AnswerFacts
 pub mod AnswersFound
 pub mod AskPasses
+pub mod BuiltJoins
 pub mod ChannelEnds
 pub mod CompilableDomains
 pub mod CompileLists
@@ -14,8 +15,6 @@ pub mod OwnEnds
 pub mod NoJoins
 pub mod PhaseStates
 pub mod PhaseTicks
-pub mod ResidualAsks
-pub mod ResidualJoins
 pub mod RoundOfStep
 pub mod RoundParts
 pub mod RoundsBegin
@@ -24,3 +23,9 @@ pub mod StampAnswers
 pub mod StateAnswers
 pub mod StateJoins
 pub mod TickStates
+pub mod StatementPlaces
+pub mod StatementJoins
+pub mod StatementAsks
+pub mod SourceEnds
+pub mod StatementStates
+pub mod StatementValues

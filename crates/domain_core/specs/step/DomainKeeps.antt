@@ -18,7 +18,7 @@ use Rattle.domain_core.specs.definitions.step.Domains.{ends_of, register_at}
 use Rattle.domain_core.specs.definitions.runs.Systems.{source_of}
 use Rattle.domain_core.specs.definitions.step.EndRegisters.{last_places}
 use Rattle.domain_core.specs.step.Answers.{newest_of}
-use Rattle.domain_core.specs.step.EndPlaces.{HasEnds}
+use Rattle.domain_core.specs.step.StatementEnds.{HaveEnds}
 use Rattle.domain_core.specs.step.JoinLists.{joins_in}
 use Rattle.domain_core.specs.step.StepParts.{PartsHold, FitsAfter}
 
@@ -32,7 +32,7 @@ pub record IsProgram (system : System) (d : ℕ) (program : Program) (source : P
   pub last : program.last.items ≡ last_places (tables_of system) d (whole source)
   pub pure : HasPureOutputs (tables_of system) d
   pub sends : SendsFit (tables_of system) source
-  pub has_ends : HasEnds (ends_of (tables_of system) d) source
+  pub has_ends : HaveEnds (ends_of (tables_of system) d) (whole source)
 
 -- the memory for one step
 pub record HasScratch (program : Program) (scratch : Scratch) : Type 0 where

@@ -9,7 +9,6 @@ use Rattle.plain_code.specs.declared.end_place.EndPlace.{EndPlace}
 use Rattle.domain_core.specs.declared.step.ends_of.EndOf.{EndOf}
 use Rattle.domain_core.specs.definitions.step.EndCalls.{end_at}
 use Rattle.domain_core.specs.definitions.step.EndRegisters.{end_number, receivers_before, with_last}
-use Rattle.domain_core.specs.equations.BuiltForms.{Plain, Seq, Loop, Send, Receive}
 
 -- the value of a send is behind its `met`, and a receive offers 0
 abbrev pub value_at : Side → EndPlace → (ℕ → ℤ) → ℤ
@@ -91,11 +90,3 @@ asked_at p k s r = cond (waits_at k p r) (Some (value_at s p r)) None
 pub record HasEnd (ends : List EndOf) (c : ℕ) (s : Side) : Type 0 where
   pub within : end_number ends c < length ends
   pub here : end_at ends (end_number ends c) ≡ record { channel = c; side = s }
-
--- each send and each receive has its end
-abbrev pub HasEnds : List EndOf → Plain → Type 0
-HasEnds ends (Seq p q) = HasEnds ends p × HasEnds ends q
-HasEnds ends (Loop p) = HasEnds ends p
-HasEnds ends (Send c v) = HasEnd ends c Sender
-HasEnds ends (Receive c) = HasEnd ends c Receiver
-HasEnds ends _ = Unit {0}

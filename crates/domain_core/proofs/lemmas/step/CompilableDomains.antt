@@ -23,11 +23,11 @@ use Rattle.domain_core.specs.definitions.step.Domains.{ends_of}
 use Rattle.domain_core.specs.definitions.runs.Systems.{source_of}
 use Rattle.domain_core.specs.equations.BuiltForms.{Plain, Nothing, Pause, Emit, Seq, Loop, Send, Receive, whole, plain}
 use Rattle.domain_core.specs.equations.BuiltLimits.{EmitsBelow, CanBuild}
-use Rattle.domain_core.specs.step.EndPlaces.{HasEnds}
+use Rattle.domain_core.specs.step.StatementEnds.{HaveEnds}
 use Rattle.domain_core.proofs.lemmas.equations.BuiltTrees.{built_stands}
 use Rattle.domain_core.proofs.lemmas.equations.BuiltCopies.{copies_are_fewer}
-use Rattle.domain_core.proofs.lemmas.runs.WellFormedSystems.{left, right, source_fits, system_joins}
-use Rattle.domain_core.proofs.lemmas.step.OwnEnds.{has_own_end}
+use Rattle.domain_core.proofs.lemmas.runs.WellFormedSystems.{left, right, source_fits}
+use Rattle.domain_core.proofs.lemmas.step.SourceEnds.{source_ends}
 use Rattle.domain_core.proofs.lemmas.step.TickStates.{interface_below}
 use Rattle.kernel_rules.specs.definitions.LegalTick.{no_inputs}
 
@@ -50,36 +50,13 @@ emits_below t d (Loop p) h = emits_below t d p h
 emits_below t d (Send c v) h = tt
 emits_below t d (Receive c) h = tt
 
--- and each send and receive has its end
-ends_there : (t : Tables) (d : ℕ) (p : Plain) → ((c : ℕ) → c < length t.channels → (channel_at t c).sender ≢ (channel_at t c).receiver) →
-    fits_statement t (record { domain = d; traps = 0; locals = [] }) (whole p) ≡ true → HasEnds (ends_of t d) p
-ends_there t d Nothing apart h = tt
-ends_there t d Pause apart h = tt
-ends_there t d (Emit s) apart h = tt
-ends_there t d (Seq p q) apart h =
-    let scope : Scope = record { domain = d; traps = 0; locals = [] } in
-    (ends_there t d p apart (left (fits_statement t scope (whole p)) (fits_statement t scope (whole q)) h), ends_there t d q apart (right (fits_statement t scope (whole p)) (fits_statement t scope (whole q)) h))
-ends_there t d (Loop p) apart h = ends_there t d p apart h
-ends_there t d (Send c v) apart h =
-    let own = left (nat_lt c (length t.channels) && ((channel_at t c).sender == d)) (is_given t (record { domain = d; traps = 0; locals = [] }) (channel_at t c).kind (Literal kind.Int v)) h in
-    let less = ltb-true c (length t.channels) (left (nat_lt c (length t.channels)) ((channel_at t c).sender == d) own) in
-    has_own_end t d c Sender less (eqb-true (channel_at t c).sender d (right (nat_lt c (length t.channels)) ((channel_at t c).sender == d) own))
-ends_there t d (Receive c) apart h =
-    let less = ltb-true c (length t.channels) (left (nat_lt c (length t.channels)) ((channel_at t c).receiver == d) h) in
-    let is = eqb-true (channel_at t c).receiver d (right (nat_lt c (length t.channels)) ((channel_at t c).receiver == d) h) in
-    has_own_end t d c Receiver less ((λ e. apart c less (e ∙ sym is)), is)
-
--- no channel joins a domain with itself
-pub channels_apart : (system : System) (c : ℕ) → c < length (tables_of system).channels → (channel_at (tables_of system) c).sender ≢ (channel_at (tables_of system) c).receiver
-channels_apart system c less = let h : IsSystem (setup_of system no_inputs) = system_joins system no_inputs in h.apart c less
-
 module _ (system : System) (d : ℕ) (p : Plain) (within : d < length (domains_of system)) (is : source_of system d ≡ whole p) where
   fits_whole : fits_statement (tables_of system) (record { domain = d; traps = 0; locals = [] }) (whole p) ≡ true
   fits_whole = subst (λ s. fits_statement (tables_of system) (record { domain = d; traps = 0; locals = [] }) s ≡ true) is
       (subst (λ k. fits_statement (tables_of system) (record { domain = k; traps = 0; locals = [] }) (source_of system d) ≡ true) (omega arith) (source_fits system d within))
 
-  pub has_ends : HasEnds (ends_of (tables_of system) d) p
-  has_ends = ends_there (tables_of system) d p (channels_apart system) fits_whole
+  pub has_ends : HaveEnds (ends_of (tables_of system) d) (whole p)
+  has_ends = subst (HaveEnds (ends_of (tables_of system) d)) is (source_ends system d within)
 
 pub source_is : (system : System) (d : ℕ) (term : Term) → CanCompile system d → term ≡ get_or (domains_of system) d term → source_of system d ≡ whole (plain term)
 source_is system d term can is =

@@ -35,9 +35,9 @@ use Rattle.domain_core.specs.step.JoinLists.{joins_in}
 use Rattle.domain_core.specs.step.EndPlaces.{PlacesFit, LastFits, HaveOwnRegisters}
 use Rattle.domain_core.specs.definitions.step.Compiling.{CanCompile, IsCompiled}
 use Rattle.domain_core.specs.step.DomainKeeps.{HasScratch, Keeps}
-use Rattle.domain_core.proofs.lemmas.step.PhaseStates.{places_fit, received_some}
-use Rattle.domain_core.proofs.lemmas.step.CompilableDomains.{channels_apart, has_ends}
-use Rattle.domain_core.proofs.lemmas.step.JoinPasses.{places_rise}
+use Rattle.domain_core.proofs.lemmas.step.PhaseStates.{all_fit, own_registers}
+use Rattle.domain_core.proofs.lemmas.step.CompilableDomains.{has_ends}
+use Rattle.domain_core.proofs.lemmas.step.SourceEnds.{channels_apart}
 use Rattle.domain_core.proofs.lemmas.step.LastValues.{count_registers, last_fits, variables_zero, values_zero, last_zero}
 use Rattle.domain_core.proofs.lemmas.equations.BuiltRules.{registers-whole}
 use Rattle.domain_core.proofs.lemmas.step.StateAnswers.{same_state}
@@ -76,17 +76,6 @@ system_sends_fit system d p less is =
     let t = tables_of system in
     let scope : Scope = record { domain = 0 + d; traps = 0; locals = [] } in
     sends_fit t scope p (subst (λ s. fits_statement t scope s ≡ true) is (source_fits system d less))
-
--- the registers of the places are the statement's, and those of the last values are behind them
-own_registers : (tables : Tables) (d : ℕ) (p : Plain) → HaveOwnRegisters (plain_places (ends_of tables d) p 0) (last_places tables d (whole p))
-own_registers tables d p = record {
-  bound = 0 + registers p;
-  rise = places_rise (ends_of tables d) p 0;
-  behind = λ i less.
-      let count = length (received_by tables d) in
-      let low : i < count = omega (arith, less, length-range_with_len (first_last tables d (whole p)) count) in
-      omega (arith, get_or-range_with_len (first_last tables d (whole p)) count i 0 low, registers-whole tables p);
-}
 
 no_joins : (t n : ℕ) → newest_of t (replicate n []) ≡ 0
 no_joins t zero = refl
@@ -147,12 +136,11 @@ module _ (system : System) (d : ℕ) (program : Program) (state : State) (scratc
           lists = list_count;
           places = subst (λ l. PlacesFit l (length program.ends.items) (length state.registers.items)) (sym places)
               (subst (λ l. PlacesFit (plain_places (ends_of (tables_of system) d) source 0) (length l) (length state.registers.items)) (sym ends)
-              (places_fit (ends_of (tables_of system) d) source 0 (length state.registers.items) (has_ends system d source can.within source_is) (omega (arith, count, count_registers (tables_of system) d (whole source), registers-whole (tables_of system) source))
-              (λ receives. let some = received_some (tables_of system) d source (channels_apart system) (has_ends system d source can.within source_is) receives in omega (arith, some, count, count_registers (tables_of system) d (whole source), registers-whole (tables_of system) source))));
+              (all_fit (tables_of system) d source (channels_apart system) (has_ends system d source can.within source_is) (length state.registers.items) count));
           last = subst (λ l. LastFits l program.ends.items (length state.registers.items)) (sym last)
               (subst (λ l. LastFits (last_places (tables_of system) d (whole source)) l (length state.registers.items)) (sym ends) (last_fits (tables_of system) d (whole source) (channels_apart system) (length state.registers.items) count));
           own = subst (λ l. HaveOwnRegisters l program.last.items) (sym places)
-              (subst (HaveOwnRegisters (plain_places (ends_of (tables_of system) d) source 0)) (sym last) (own_registers (tables_of system) d source));
+              (subst (HaveOwnRegisters (plain_places (ends_of (tables_of system) d) source 0)) (sym last) (own_registers (tables_of system) d source (channels_apart system) (has_ends system d source can.within source_is)));
           counts = λ k less.
               let here = ap (λ l. length (joins_at l k)) joins ∙ ap length (empty_at (length program.ends.items) k) in
               let free = ap pending (off k) in

@@ -34,7 +34,7 @@ use Rattle.domain_core.specs.equations.Places.{plain_places}
 use Rattle.domain_core.specs.definitions.step.EndCalls.{end_at, recalls, offers, stands_after, CanOffer, RecallsAll, OffersAll}
 use Rattle.domain_core.specs.definitions.step.EndRegisters.{end_places, last_places, registers_joined}
 use Rattle.domain_core.specs.definitions.runs.Stamps.{IsTickStamp}
-use Rattle.domain_core.specs.step.EndPlaces.{ask_of, PlacesFit, LastFits, HasEnds}
+use Rattle.domain_core.specs.step.EndPlaces.{ask_of, PlacesFit, LastFits}
 use Rattle.domain_core.specs.step.Answers.{with_answers, newest_of, next_stamp, raised}
 use Rattle.domain_core.specs.definitions.step.Domains.{DomainView, ends_of, register_at, joins_at, statement_held, state_held, state_of}
 use Rattle.domain_core.specs.definitions.runs.Systems.{source_of}
@@ -46,10 +46,11 @@ use Rattle.domain_core.proofs.lemmas.step.StateJoins.{ends_apart}
 use Rattle.domain_core.proofs.lemmas.step.StateAnswers.{same_state, length_joins}
 use Rattle.domain_core.proofs.lemmas.step.StampAnswers.{one_if, all_raised, all_other, all_counted, next_is_stamp}
 use Rattle.domain_core.proofs.lemmas.step.AnswersFound.{answers_found}
-use Rattle.domain_core.proofs.lemmas.step.CompilableDomains.{channels_apart}
+use Rattle.domain_core.proofs.lemmas.step.SourceEnds.{channels_apart}
 use Rattle.domain_core.proofs.lemmas.step.LastValues.{variables_same, last_same}
 use Rattle.domain_core.proofs.lemmas.equations.BuiltRules.{registers-whole}
-use Rattle.domain_core.proofs.lemmas.step.ResidualJoins.{places_same}
+use Rattle.domain_core.specs.step.StatementEnds.{HaveEnds}
+use Rattle.domain_core.proofs.lemmas.step.BuiltJoins.{places_same}
 use Rattle.domain_core.proofs.lemmas.step.TickStates.{after_tick, tick_is_legal, statuses_fit, values_none}
 use Rattle.domain_core.proofs.lemmas.step.PhaseStates.{answers_state, replies_state, answers_fit, ask_fits, still_waits, asked_after, recalled_fits, offered_fits, offered_stands}
 
@@ -156,7 +157,7 @@ module _ {S : Type 0} (moved : S → ℕ → CellMove → Option Joined → S �
   recalls_here : RecallsAll moved count view ends s0.standing.items answers (length ends) first middle
   recalls_here = subst (λ l. RecallsAll moved count view l s0.standing.items answers (length l) first middle) same_ends recalled
 
-  has : HasEnds (ends_of (tables_of system) d) source
+  has : HaveEnds (ends_of (tables_of system) d) (whole source)
   has = keeps.is_program.has_ends
 
   pub alone_here : (k : ℕ) → k < length ends → get_or s0.standing.items k false ≡ false → get_or answers k None ≡ None
@@ -407,7 +408,7 @@ module _ {S : Type 0} (moved : S → ℕ → CellMove → Option Joined → S �
           ∙ ap (λ l. cond ended None (ask_of (plain_places ends source 0) k (end_at l k).side r2)) same_ends
 
       asks_here : (k : ℕ) → k < length ends → IsAsk (end_at ends k) after.statement (get_or asks k None)
-      asks_here k less = subst (IsAsk (end_at ends k) after.statement) (sym (asked_here k less)) (asked_after tables d source k r2 ended less has tells.fits)
+      asks_here k less = subst (IsAsk (end_at ends k) after.statement) (sym (asked_here k less)) (asked_after tables d source (channels_apart system) has k r2 ended less tells.fits)
 
       -- the ends may make these offers
       ask_value : (k : ℕ) → k < length ends → (a : Option ℤ) (b : Bool) → ended ≡ b → get_or asks k None ≡ a → IfSome a (ValueFits (end_at ends k).side (channel_at tables (end_at ends k).channel).kind)

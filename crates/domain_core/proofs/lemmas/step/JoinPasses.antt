@@ -11,9 +11,6 @@ use Rattle.cell_core.specs.declared.moves.Side.TheVariants.{Sender, Receiver}
 use Rattle.cell_core.specs.declared.moves.Joined.{Joined}
 use Rattle.plain_code.specs.declared.end_place.EndPlace.{EndPlace}
 use Rattle.domain_core.specs.declared.step.ends_of.EndOf.{EndOf}
-use Rattle.domain_core.specs.equations.BuiltForms.{Plain, Nothing, Pause, Emit, Seq, Loop, Send, Receive}
-use Rattle.domain_core.specs.equations.BuiltRegisters.{registers}
-use Rattle.domain_core.specs.equations.Places.{plain_places}
 use Rattle.domain_core.specs.definitions.step.EndCalls.{end_at}
 use Rattle.domain_core.specs.definitions.step.EndRegisters.{receivers_before, met_at, met, with_last, joined_at, registers_joined}
 use Rattle.domain_core.specs.definitions.step.Domains.{is_receiver}
@@ -47,7 +44,7 @@ met_put_at t p r l v on ne =
     by_test true = put_swap r l p.met v (pos 1) ne
     by_test false = refl
 
-rise_within : (n m : ℕ) (ps : List EndPlace) → Rise n ps m → n ≤ m
+pub rise_within : (n m : ℕ) (ps : List EndPlace) → Rise n ps m → n ≤ m
 rise_within n m [] h = h
 rise_within n m (p ∷ ps) h = let x = rise_within (p.on + 2) m ps h.2 in omega (arith, x, h.0)
 
@@ -192,21 +189,10 @@ module _ (places : List EndPlace) (last : List ℕ) (ends : List EndOf) (answers
       ∙ sym (one_pass (length ends) r (omega arith))
 
 -- the registers of the places of a statement rise
-rise_lower : (n m k : ℕ) (ps : List EndPlace) → n ≤ m → Rise m ps k → Rise n ps k
+pub rise_lower : (n m k : ℕ) (ps : List EndPlace) → n ≤ m → Rise m ps k → Rise n ps k
 rise_lower n m k [] le h = omega (arith, le, h)
 rise_lower n m k (p ∷ ps) le h = (omega (arith, le, h.0), h.1, h.2)
 
-rise-append : (a b : List EndPlace) (n m k : ℕ) → Rise n a m → Rise m b k → Rise n (a ++ b) k
+pub rise-append : (a b : List EndPlace) (n m k : ℕ) → Rise n a m → Rise m b k → Rise n (a ++ b) k
 rise-append [] b n m k x y = rise_lower n m k b x y
 rise-append (p ∷ a) b n m k x y = (x.0, x.1, rise-append a b (p.on + 2) m k x.2 y)
-
-pub places_rise : (ends : List EndOf) (p : Plain) (n : ℕ) → Rise n (plain_places ends p n) (n + registers p)
-places_rise ends Nothing n = omega arith
-places_rise ends Pause n = omega arith
-places_rise ends (Emit s) n = omega arith
-places_rise ends (Seq p q) n =
-    rise-append (plain_places ends p n) (plain_places ends q (n + registers p)) n (n + registers p) (n + registers (Seq p q)) (places_rise ends p n)
-    (subst (Rise (n + registers p) (plain_places ends q (n + registers p))) (omega arith) (places_rise ends q (n + registers p)))
-places_rise ends (Loop p) n = places_rise ends p n
-places_rise ends (Send c v) n = (omega arith, refl, omega arith)
-places_rise ends (Receive c) n = (omega arith, refl, omega arith)

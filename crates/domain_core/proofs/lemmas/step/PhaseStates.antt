@@ -10,7 +10,7 @@ use Rattle.kernel_terms.specs.declared.tables.Tables.{Tables}
 use Rattle.kernel_terms.specs.TableEntries.{channel_at, received_by}
 use Rattle.kernel_terms.specs.Statements.{Stmt}
 use Rattle.kernel_terms.specs.Statements as rules
-use Rattle.kernel_rules.specs.definitions.Registers.{residual, FitRegisters}
+use Rattle.kernel_rules.specs.definitions.Registers.{residual, domain_registers, FitRegisters}
 use Rattle.kernel_rules.specs.definitions.LegalTick.{DomainState}
 use Rattle.cell_core.specs.declared.moves.Side.{Side}
 use Rattle.cell_core.specs.declared.moves.Side.TheVariants.{Sender, Receiver}
@@ -23,8 +23,9 @@ use Rattle.domain_core.specs.equations.BuiltForms.{Plain, Nothing, Pause, Emit, 
 use Rattle.domain_core.specs.equations.BuiltRegisters.{registers, HoldsLiteral}
 use Rattle.domain_core.specs.equations.Places.{plain_places}
 use Rattle.domain_core.specs.definitions.step.EndCalls.{end_at, stands_after, IsRecalled, IsOffered}
-use Rattle.domain_core.specs.definitions.step.EndRegisters.{end_number, last_places, registers_joined}
-use Rattle.domain_core.specs.step.EndPlaces.{waits_at, value_at, ask_of, PlaceFits, PlacesFit, HasEnds}
+use Rattle.domain_core.specs.definitions.step.EndRegisters.{end_number, end_places, last_places, registers_joined}
+use Rattle.domain_core.specs.step.EndPlaces.{waits_at, value_at, ask_of, PlacesFit, HaveOwnRegisters}
+use Rattle.domain_core.specs.step.StatementEnds.{HaveEnds}
 use Rattle.domain_core.specs.step.Answers.{no_channel, side_done, end_done, with_answers}
 use Rattle.domain_core.specs.equations.SendsFit.{SendsFit}
 use Rattle.domain_core.specs.definitions.step.Domains.{ends_of, state_held}
@@ -32,100 +33,66 @@ use Rattle.domain_core.specs.definitions.step.Steps.{WaitsAs, Waits, IsAsk, Fits
 use Rattle.domain_core.specs.step.StepParts.{FitsAfter}
 use Rattle.domain_core.proofs.lemmas.runs.JoinedStatements.{still_sends, still_receives}
 use Rattle.domain_core.proofs.lemmas.step.StateJoins.{AreApart, ends_apart}
-use Rattle.domain_core.proofs.lemmas.step.StateAnswers.{with_none, joined_none, state_joins, fit_all, literals_all}
-use Rattle.domain_core.proofs.lemmas.step.LastValues.{is_received}
-use Rattle.domain_core.proofs.lemmas.step.ResidualAsks.{asks, nothing_asks}
+use Rattle.domain_core.proofs.lemmas.step.BuiltJoins.{whole_waits, places_same, literals_all}
+use Rattle.domain_core.proofs.lemmas.step.StatementStates as any
+use Rattle.domain_core.proofs.lemmas.step.StatementValues.{ask_or, of_some, is_asked}
 
-module _ (tables : Tables) (d : ℕ) (p : Plain) (channels : (c : ℕ) → c < length tables.channels → (channel_at tables c).sender ≢ (channel_at tables c).receiver) (has : HasEnds (ends_of tables d) p) where
+-- What holds of any source holds of a built statement.
+module _ (tables : Tables) (d : ℕ) (p : Plain) (channels : (c : ℕ) → c < length tables.channels → (channel_at tables c).sender ≢ (channel_at tables c).receiver) (has : HaveEnds (ends_of tables d) (whole p)) where
   abbrev own : List EndOf
   own = ends_of tables d
 
+  abbrev joined_in : List EndPlace → List (Option Joined) → (ℕ → ℤ) → ℕ → ℤ
+  joined_in places answers r = registers_joined places (last_places tables d (whole p)) (ends_of tables d) answers (length (ends_of tables d)) r
+
   abbrev joined : List (Option Joined) → (ℕ → ℤ) → ℕ → ℤ
-  joined answers r = registers_joined (plain_places (ends_of tables d) p 0) (last_places tables d (whole p)) (ends_of tables d) answers (length (ends_of tables d)) r
+  joined answers r = joined_in (plain_places (ends_of tables d) p 0) answers r
+
+  places_here : end_places tables own (whole p) 0 ≡ plain_places own p 0
+  places_here = places_same tables own p 0
+
+  fits_there : (ticks : ℕ) (r : ℕ → ℤ) → FitsAfter tables p ticks r → 0 < ticks → FitRegisters tables (whole p) 0 r
+  fits_there zero r fits less = absurd (omega (arith, less))
+  fits_there (suc t) r fits less = fits.0
 
   -- the answers of the own, in a domain that goes on
   pub answers_state : (answers : List (Option Joined)) (ticks : ℕ) (r : ℕ → ℤ) → FitsAfter tables p ticks r → (ticks ≡ 0 → (k : ℕ) → k < length own → get_or answers k None ≡ None) →
       state_held tables d (whole p) ticks Going (joined answers r) ≡ with_answers own answers (length own) (state_held tables d (whole p) ticks Going r)
-  answers_state answers zero r fits none =
-      ap (state_held tables d (whole p) 0 Going) (joined_none own answers (plain_places own p 0) (last_places tables d (whole p)) (length own) r (none refl))
-      ∙ sym (with_none own answers (length own) (state_held tables d (whole p) 0 Going r) (none refl))
-  answers_state answers (suc t) r fits none = state_joins tables d p channels has answers (length own) t r fits.0.is_live (omega arith)
+  answers_state answers ticks r fits none =
+      subst (λ l. state_held tables d (whole p) ticks Going (joined_in l answers r) ≡ with_answers own answers (length own) (state_held tables d (whole p) ticks Going r)) places_here
+      (any.answers_state tables d (whole p) channels has (whole_waits p) answers ticks r (fits_there ticks r fits) none)
 
   -- the same in one that may have ended
   pub replies_state : (answers : List (Option Joined)) (t : ℕ) (ended : Bool) (r : ℕ → ℤ) → (ended ≡ false → FitsAfter tables p (suc t) r) → (ended ≡ true → (k : ℕ) → k < length own → get_or answers k None ≡ None) →
       state_held tables d (whole p) (suc t) (cond ended Ended Going) (joined answers r) ≡ with_answers own answers (length own) (state_held tables d (whole p) (suc t) (cond ended Ended Going) r)
-  replies_state answers t true r fits none =
-      ap (state_held tables d (whole p) (suc t) Ended) (joined_none own answers (plain_places own p 0) (last_places tables d (whole p)) (length own) r (none refl))
-      ∙ sym (with_none own answers (length own) (state_held tables d (whole p) (suc t) Ended r) (none refl))
-  replies_state answers t false r fits none = answers_state answers (suc t) r (fits refl) (λ e. absurd (omega (arith, e)))
+  replies_state answers t ended r fits none =
+      subst (λ l. state_held tables d (whole p) (suc t) (cond ended Ended Going) (joined_in l answers r) ≡ with_answers own answers (length own) (state_held tables d (whole p) (suc t) (cond ended Ended Going) r)) places_here
+      (any.replies_state tables d (whole p) channels has (whole_waits p) answers t ended r (λ goes. let x : FitsAfter tables p (suc t) r = fits goes in x.0) none)
 
   pub answers_fit : (answers : List (Option Joined)) (ticks : ℕ) (r : ℕ → ℤ) → FitsAfter tables p ticks r → FitsAfter tables p ticks (joined answers r)
   answers_fit answers zero r fits = tt
-  answers_fit answers (suc t) r fits = (fit_all tables d p channels has answers (length own) r (omega arith) fits.0, literals_all tables d p channels has answers (length own) r (omega arith) fits.1)
+  answers_fit answers (suc t) r fits = (
+    subst (λ l. FitRegisters tables (whole p) 0 (joined_in l answers r)) places_here (any.fit_all tables d (whole p) channels has (whole_waits p) answers (length own) r (omega arith) fits.0),
+    literals_all tables d p channels has answers (length own) r (omega arith) fits.1,
+  )
 
--- the places of a statement have their registers, with one more behind them where it receives
-abbrev pub Receives : Plain → Type 0
-Receives (Seq p q) = Receives p ⊎ Receives q
-Receives (Loop p) = Receives p
-Receives (Receive c) = Unit {0}
-Receives _ = ⊥
+  -- there are registers for all places, each has its own, and those of the last values are behind them
+  pub all_fit : (n : ℕ) → n ≡ length (domain_registers tables d (whole p)) → PlacesFit (plain_places own p 0) (length own) n
+  all_fit n count = subst (λ l. PlacesFit l (length own) n) places_here (any.all_fit tables d (whole p) channels has (whole_waits p) n count)
 
-pub places_fit : (ends : List EndOf) (p : Plain) (n m : ℕ) → HasEnds ends p → n + registers p ≤ m → (Receives p → n + registers p < m) → PlacesFit (plain_places ends p n) (length ends) m
-places_fit ends Nothing n m has room more i q less = absurd (omega (arith, less))
-places_fit ends Pause n m has room more i q less = absurd (omega (arith, less))
-places_fit ends (Emit s) n m has room more i q less = absurd (omega (arith, less))
-places_fit ends (Seq a b) n m has room more i q less =
-    both (plain_places ends a n) (plain_places ends b (n + registers a)) (length ends) m i q (places_fit ends a n m has.0 (omega (arith, room)) (λ r. let x = more (inl r) in omega (arith, x)))
-    (places_fit ends b (n + registers a) m has.1 (omega (arith, room)) (λ r. let x = more (inr r) in omega (arith, x))) less
-  where
-    both : (xs ys : List EndPlace) (e m i : ℕ) (q : EndPlace) → PlacesFit xs e m → PlacesFit ys e m → i < length (xs ++ ys) → PlaceFits e m (get_or (xs ++ ys) i q)
-    both [] ys e m i q x y less = y i q less
-    both (a ∷ xs) ys e m zero q x y less = x 0 q (omega arith)
-    both (a ∷ xs) ys e m (suc i) q x y less = both xs ys e m i q (λ j r l. x (suc j) r (omega (arith, l))) y (omega (arith, less))
-places_fit ends (Loop a) n m has room more i q less = places_fit ends a n m has room more i q less
-places_fit ends (Send c v) n m has room more zero q less = record { which = has.within; on = omega (arith, room); value = omega (arith, room) }
-places_fit ends (Send c v) n m has room more (suc i) q less = absurd (omega (arith, less))
-places_fit ends (Receive c) n m has room more zero q less = let x = more tt in record { which = has.within; on = omega (arith, room); value = omega (arith, x) }
-places_fit ends (Receive c) n m has room more (suc i) q less = absurd (omega (arith, less))
+  pub own_registers : HaveOwnRegisters (plain_places own p 0) (last_places tables d (whole p))
+  own_registers = subst (λ l. HaveOwnRegisters l (last_places tables d (whole p))) places_here (any.own_registers tables d (whole p) channels has (whole_waits p))
 
--- a domain that receives has a register for a last value
-pub received_some : (tables : Tables) (d : ℕ) (p : Plain) → ((c : ℕ) → c < length tables.channels → (channel_at tables c).sender ≢ (channel_at tables c).receiver) → HasEnds (ends_of tables d) p → Receives p →
-    0 < length (received_by tables d)
-received_some tables d (Seq p q) channels has (inl r) = received_some tables d p channels has.0 r
-received_some tables d (Seq p q) channels has (inr r) = received_some tables d q channels has.1 r
-received_some tables d (Loop p) channels has r = received_some tables d p channels has r
-received_some tables d (Receive c) channels has r =
-    let x = is_received tables d (whole (Receive c)) channels (end_number (ends_of tables d) c) has.within (ap (λ (e : EndOf). e.side) has.here) in
-    omega (arith, x.within)
-received_some tables d Nothing channels has r = absurd r
-received_some tables d Pause channels has r = absurd r
-received_some tables d (Emit s) channels has r = absurd r
-received_some tables d (Send c v) channels has r = absurd r
+  -- what the ends ask after a tick
+  pub asked_after : (k : ℕ) (new : ℕ → ℤ) (ended : Bool) → k < length own → (ended ≡ false → FitRegisters tables (whole p) 0 new) →
+      IsAsk (end_at own k) (cond ended rules.Nothing (residual tables (whole p) 0 new)) (cond ended None (ask_of (plain_places own p 0) k (end_at own k).side new))
+  asked_after k new ended within fits =
+      subst (λ l. IsAsk (end_at own k) (cond ended rules.Nothing (residual tables (whole p) 0 new)) (cond ended None (ask_of l k (end_at own k).side new))) places_here
+      (any.asked_after tables d (whole p) channels has (whole_waits p) k new ended within fits)
 
 -- what a send asks is a value of its channel's kind
-ask_or : (xs ys : List EndPlace) (k : ℕ) (s : Side) (f : ℕ → ℤ) (v : ℤ) → ask_of (xs ++ ys) k s f ≡ Some v → (ask_of xs k s f ≡ Some v) ⊎ (ask_of ys k s f ≡ Some v)
-ask_or [] ys k s f v h = inr h
-ask_or (x ∷ xs) ys k s f v h = skip (waits_at k x f) (value_at s x f) (ask_of xs k s f) (ask_of (xs ++ ys) k s f) h (ask_or xs ys k s f v)
-  where
-    skip : (t : Bool) (w : ℤ) (a b : Option ℤ) → cond t (Some w) b ≡ Some v → (b ≡ Some v → (a ≡ Some v) ⊎ (ask_of ys k s f ≡ Some v)) → (cond t (Some w) a ≡ Some v) ⊎ (ask_of ys k s f ≡ Some v)
-    skip true w a b h rest = inl h
-    skip false w a b h rest = rest h
-
-of_some : (t : Bool) (w v : ℤ) → cond t (Some w) None ≡ Some v → (t ≡ true) × (w ≡ v)
-of_some true w v h = (refl, ap (λ (o : Option ℤ). unwrap_or o w) h)
-of_some false w v h = absurd (none-some v h)
-
-record IsAsked (c k : ℕ) (ends : List EndOf) (u : Bool) : Type 0 where
-  which : end_number ends c ≡ k
-  on : u ≡ true
-
-is_asked : (c k : ℕ) (ends : List EndOf) (t u w : Bool) → (end_number ends c == k) ≡ t → t && (u && w) ≡ true → IsAsked c k ends u
-is_asked c k ends true true w is h = record { which = eqb-true (end_number ends c) k is; on = refl }
-is_asked c k ends true false w is h = absurd (true≢false (sym h))
-is_asked c k ends false u w is h = absurd (true≢false (sym h))
-
 module _ (tables : Tables) (ends : List EndOf) (k : ℕ) (f : ℕ → ℤ) (v : ℤ) where
-  pub ask_fits : (p : Plain) (n : ℕ) → HoldsLiteral p n f → SendsFit tables p → HasEnds ends p → ask_of (plain_places ends p n) k (end_at ends k).side f ≡ Some v →
+  pub ask_fits : (p : Plain) (n : ℕ) → HoldsLiteral p n f → SendsFit tables p → HaveEnds ends (whole p) → ask_of (plain_places ends p n) k (end_at ends k).side f ≡ Some v →
       ValueFits (end_at ends k).side (channel_at tables (end_at ends k).channel).kind v
   ask_fits Nothing n h s has ask = absurd (none-some v ask)
   ask_fits Pause n h s has ask = absurd (none-some v ask)
@@ -170,12 +137,6 @@ still_waits ends answers k (suc n) w x apart within room none waits =
     by_answer : (f : EndOf) (a : Option Joined) (y : DomainState) → (end_at ends k).channel ≢ f.channel → Waits (end_at ends k) w y.statement → Waits (end_at ends k) w (end_done f a y).statement
     by_answer f None y ne h = h
     by_answer f (Some j) y ne h = still_waits_side (end_at ends k).side f.side (end_at ends k).channel f.channel w j y ne h
-
--- what the ends ask after a tick
-pub asked_after : (tables : Tables) (d : ℕ) (p : Plain) (k : ℕ) (new : ℕ → ℤ) (ended : Bool) → k < length (ends_of tables d) → HasEnds (ends_of tables d) p → (ended ≡ false → FitRegisters tables (whole p) 0 new) →
-    IsAsk (end_at (ends_of tables d) k) (cond ended rules.Nothing (residual tables (whole p) 0 new)) (cond ended None (ask_of (plain_places (ends_of tables d) p 0) k (end_at (ends_of tables d) k).side new))
-asked_after tables d p k new true within has fits = nothing_asks (end_at (ends_of tables d) k)
-asked_after tables d p k new false within has fits = asks tables (ends_of tables d) (ends_apart tables d) k within p 0 new has (fits refl).is_live (fits refl).apart
 
 -- the joins that recalls and offers answer
 standing_join : (o : Option StandingOffer) (kind : Kind) (side : Side) (stamp : ℕ) (e : EndOf) (t : Stmt) (j : Joined) → IsSomeAnd o (IsWaitingOffer e stamp t) →
