@@ -8,3 +8,4 @@ pub mod ResumeRests
 pub mod ResumeShows
 pub mod LeavesResume
 pub mod LoopsResume
+pub mod OwnVariables

@@ -129,8 +129,8 @@ sets_both first m n k s t = by_cases (nat_lt k (first + m)) front back where
   front e =
       let other : is_own (first + m) n k ≡ false = grind (arith, nat_tests) in
       let same : is_own first m k ≡ is_own first (m + n) k = by_cases (nat_le first k)
-          (λ f. (let x : is_own first m k ≡ true = grind (arith, nat_tests) in x) ∙ sym (let y : is_own first (m + n) k ≡ true = grind (arith, nat_tests) in y))
-          (λ f. (let x : is_own first m k ≡ false = grind (arith, nat_tests) in x) ∙ sym (let y : is_own first (m + n) k ≡ false = grind (arith, nat_tests) in y)) in
+      (λ f. (let x : is_own first m k ≡ true = grind (arith, nat_tests) in x) ∙ sym (let y : is_own first (m + n) k ≡ true = grind (arith, nat_tests) in y))
+      (λ f. (let x : is_own first m k ≡ false = grind (arith, nat_tests) in x) ∙ sym (let y : is_own first (m + n) k ≡ false = grind (arith, nat_tests) in y)) in
       ap (λ b. own_sets first m s k ++ cond b (sets_of (t k)) []) other
       ∙ append-nil (own_sets first m s k)
       ∙ ap (λ b. cond b (sets_of (s k)) []) same
@@ -141,8 +141,8 @@ sets_both first m n k s t = by_cases (nat_lt k (first + m)) front back where
   back e =
       let other : is_own first m k ≡ false = by_cases (nat_le first k) (λ f. ap₂ (λ x y. x && y) f e) (λ f. ap (λ x. x && nat_lt k (first + m)) f) in
       let same : is_own (first + m) n k ≡ is_own first (m + n) k = by_cases (nat_lt k (first + (m + n)))
-          (λ f. (let x : is_own (first + m) n k ≡ true = grind (arith, nat_tests) in x) ∙ sym (let y : is_own first (m + n) k ≡ true = grind (arith, nat_tests) in y))
-          (λ f. (let x : is_own (first + m) n k ≡ false = grind (arith, nat_tests) in x) ∙ sym (let y : is_own first (m + n) k ≡ false = grind (arith, nat_tests) in y)) in
+      (λ f. (let x : is_own (first + m) n k ≡ true = grind (arith, nat_tests) in x) ∙ sym (let y : is_own first (m + n) k ≡ true = grind (arith, nat_tests) in y))
+      (λ f. (let x : is_own (first + m) n k ≡ false = grind (arith, nat_tests) in x) ∙ sym (let y : is_own first (m + n) k ≡ false = grind (arith, nat_tests) in y)) in
       ap (λ b. cond b (sets_of (s k)) [] ++ own_sets (first + m) n t k) other
       ∙ ap (λ b. cond b (sets_of (t k)) []) same
       ∙ ap (λ b. cond (is_own first (m + n) k) (sets_of (cond b (s k) [] ++ cond b [] (t k))) []) (sym e)

@@ -97,7 +97,7 @@ nothing_starts tables old b given n o = record {
   status = o.first;
   live = refl;
   ends = refl;
-  register = no_more given.register;
+  register = λ e. no_more given.register;
 }
 
 -- one set more, on the wire behind the status
@@ -116,7 +116,7 @@ pause_starts tables old b sets given n lt o is = record {
   status = o.first;
   live = refl;
   ends = refl;
-  register = refl;
+  register = λ e. refl;
 }
 
 pub receive_starts : (tables : Tables) (old : CopyBuilder) (b : Builder) (sets : Vec (Vec Guarded Global) Global) (given : Given) (n ch : ℕ) → given.register < length old.sets.items
@@ -131,7 +131,7 @@ receive_starts tables old b sets given n ch lt o is = record {
   status = o.first;
   live = refl;
   ends = refl;
-  register = refl;
+  register = λ e. refl;
 }
 
 pub send_starts : (tables : Tables) (old : CopyBuilder) (b : Builder) (mid sets : Vec (Vec Guarded Global) Global) (given : Given) (n ch : ℕ) (e : Expression) → given.register + 3 ≤ length old.sets.items
@@ -157,7 +157,7 @@ send_starts tables old b mid sets given n ch e lt o one two =
       status = o.first;
       live = refl;
       ends = refl;
-      register = refl;
+      register = λ e. refl;
     }
 
 swapped : (i k : ℕ) → (i == k) ≡ (k == i)
@@ -176,7 +176,7 @@ emission_starts tables old b emits given n s e lt o is = record {
   status = o.first;
   live = refl;
   ends = refl;
-  register = no_more given.register;
+  register = λ e. no_more given.register;
 }
 
 -- the wires of variables after an assignment
@@ -232,7 +232,7 @@ assignment_starts tables old new b given n y before e built lt is o a =
       status = o.first;
       live = refl;
       ends = refl;
-      register = no_more given.register;
+      register = λ e. no_more given.register;
     } where
       ap_choice : SpellsOut old.builder b (equation old.builder.next (Status given.go 0) ∷ equation (old.builder.next + 1) (Value e (wires_in old.wires)) ∷ equation (old.builder.next + 2) (Choose given.go (old.builder.next + 1) before) ∷ [])
           → SpellsOut old.builder new.builder (start tables (Assign y e) (context old given)).equations

@@ -36,14 +36,21 @@ pub struct Given {
     pub register: u32,
 }
 
-/// The wires of a copy's status and of whether it is live, whether its statement may end, and the
-/// number of the first register behind its own.
+/// The wires of a copy's status and of whether it is live, whether its statement may end, and then
+/// the number of the first register behind its own.
 #[derive(Clone, Copy, Debug, Drop)]
 pub struct Made {
     pub status: u32,
     pub live: u32,
     pub ends: bool,
     pub register: u32,
+}
+
+/// The first own wire of a sequence, and the wire of the status of its first part.
+#[derive(Clone, Copy, Debug, Drop)]
+pub struct Turn {
+    pub own: u32,
+    pub status: u32,
 }
 
 /// Adds a value to the list of this number.

@@ -92,7 +92,10 @@ pub fn give_is_status(builder: &mut Builder, wire: u32, a: u32, code: u32) -> Re
         (spelled builder.old.further (formula.IsStatus a code)) wire) }
 {
     let n = builder.add(Formula::Const(i64::from(code) + 1))?;
-    builder.push(wire, Formula::Apply2(Op2::Equal, Kind::Int, Kind::Int, a, n))
+    builder.push(
+        wire,
+        Formula::Apply2(Op2::Equal, Kind::Int, Kind::Int, a, n),
+    )
 }
 
 /// Gives a wire the greater of two statuses.

@@ -12,6 +12,7 @@ mod kind_laws;
 mod laws;
 mod rows;
 mod spelling;
+mod starting;
 mod starting_leaves;
 mod statuses;
 mod variables;
@@ -40,6 +41,7 @@ pub use spelling::{
     expressions_on_wires_have_their_values, spelled_equations_hold, spelled_equations_say_the_same,
     written_equations_are_spelled,
 };
+pub use starting::start;
 pub use statuses::{add_combined, give_status, give_trap, give_weak_abort};
 pub use variables::{join, set_wire, undo};
 pub use wire_tables::WireTables;

@@ -198,8 +198,9 @@ pub fn start_send(
         (statements.Send channel (terms.expression value.now)) made) }
 {
     let status = own_send(&mut b.builder, &b.wires, value, given.go, given.keep)?;
-    add_guarded(&mut b.sets, given.register, status + 1, status + 1)?;
-    add_guarded(&mut b.sets, given.register + 2, status + 1, status + 2)?;
+    let on = status + 1;
+    add_guarded(&mut b.sets, given.register, on, on)?;
+    add_guarded(&mut b.sets, given.register + 2, on, status + 2)?;
     Ok(Made {
         status,
         live: 0,
@@ -216,7 +217,8 @@ pub fn start_receive(b: &mut CopyBuilder, given: Given, channel: u32) -> Result<
         Starts tables b.old b.new given (statements.Receive channel) made) }
 {
     let status = own_pause(&mut b.builder, given.go, given.keep)?;
-    add_guarded(&mut b.sets, given.register, status + 1, status + 1)?;
+    let set = status + 1;
+    add_guarded(&mut b.sets, given.register, set, set)?;
     Ok(Made {
         status,
         live: 0,

@@ -1,19 +1,29 @@
+ghost use Rattle.std.specs.Prelude.{◌≡◌, IfOk, None, length, pos};
+ghost use Rattle.java_values.specs.declared.kind.Kind.TheVariants as kind;
+ghost use Rattle.kernel_terms.specs.Expressions.{Literal};
+ghost use Rattle.kernel_terms.specs.Statements as statements;
+ghost use Rattle.kernel_terms.specs.Statements.{statement};
+
 use crate::builder::{Builder, FIRST_FURTHER};
 use crate::change::Change;
+use crate::copy_builder::{CopyBuilder, Given, Guarded};
 use crate::expression::{test, value};
+use crate::starting::start;
 use crate::statuses::{add_combined, give_status, give_trap, give_weak_abort};
 use crate::variables::{join, set_wire, undo};
 use crate::wire_tables::WireTables;
 use java_values::{Kind, NoMemory, Op1, Op2};
-use kernel_terms::{Combine, Expr, ExprForm, SigTest};
-use sqlite_items::Boxed;
+use kernel_terms::{Combine, Expr, ExprForm, Form, SigTest, Tables, Term};
+use sqlite_items::{Boxed, Items};
 use std::alloc::Global;
 use std::test::Fail;
 use wire_code::{Equation, Formula};
 
 // Variable 1 is on wire 11, signal 0 on the wires 20 (presence) and 30 (value), and channel 0 on
 // wire 40.
-fn tables(alloc: Global) -> Result<WireTables, NoMemory> {
+fn tables(alloc: Global) -> Result<WireTables, NoMemory>
+    ensures { IfOk result (λ tables. length tables.variables.items ≡ 2) }
+{
     Ok(WireTables {
         variables: vec![in alloc; 10, 11]?,
         present: vec![in alloc; 20]?,
@@ -174,5 +184,161 @@ fn variables_of_two_alternatives(rt: HostRuntime) -> Result<(), Fail> {
     assert_eq!(rt; changes.len(), 5);
     assert!(rt; is_logged(&changes, 3, 0, 1));
     assert!(rt; is_logged(&changes, 4, 1, 20));
+// One signal and one register, and own wires from 50 on.
+fn copy_builder(alloc: Global) -> Result<CopyBuilder, NoMemory>
+    ensures variables { IfOk result (λ b. length b.wires.variables.items ≡ 2) }
+    ensures signals { IfOk result (λ b. length b.emits.items ≡ 1) }
+    ensures registers { IfOk result (λ b. length b.sets.items ≡ 1) }
+{
+    Ok(CopyBuilder {
+        builder: Builder::new(alloc, 50),
+        wires: tables(alloc)?,
+        changes: Vec::new(alloc),
+        emits: vec![in alloc; Vec::new(alloc)]?,
+        sets: vec![in alloc; Vec::new(alloc)]?,
+    })
+}
+
+fn no_tables(alloc: Global) -> Tables {
+    Tables {
+        signals: Items::from_vec(Vec::new(alloc)),
+        channels: Items::from_vec(Vec::new(alloc)),
+        variables: Items::from_vec(Vec::new(alloc)),
+    }
+}
+
+fn at_start(form: Form) -> Term
+    ensures { result.form ≡ form }
+{
+    Term { at: 0, form }
+}
+
+fn emission() -> Term
+    ensures { statement result ≡ statements.Emit 0 None }
+{
+    at_start(Form::Emit {
+        signal: 0,
+        value: None,
+    })
+}
+
+fn assignment() -> Term
+    ensures { statement result ≡ statements.Assign 1 (Literal kind.Short (pos 5)) }
+{
+    let five = Expr {
+        kind: Kind::Short,
+        form: ExprForm::Literal(5),
+    };
+    at_start(Form::Assign {
+        var: 1,
+        value: five,
+    })
+}
+
+fn in_turn(alloc: Global, p: Term, q: Term, r: Term) -> Result<Term, NoMemory>
+    ensures { IfOk result (λ t. statement t ≡ statements.Seq (statement p) (statements.Seq
+        (statement q) (statement r))) }
+{
+    let mut parts = Vec::new(alloc);
+    parts.push(p)?;
+    parts.push(q)?;
+    parts.push(r)?;
+    Ok(at_start(Form::Seq(Items::from_vec(parts))))
+}
+
+// `while(true) { emit S; v = 5; pause; }`
+fn turns(alloc: Global) -> Result<Term, NoMemory>
+    ensures { IfOk result (λ t. statement t ≡ statements.Loop (statements.Seq
+        (statements.Emit 0 None) (statements.Seq
+        (statements.Assign 1 (Literal kind.Short (pos 5))) statements.Pause))) }
+{
+    let body = in_turn(alloc, emission(), assignment(), at_start(Form::Pause))?;
+    Ok(at_start(Form::Loop(Boxed::new(alloc, body)?)))
+}
+
+fn status(op: Op2, a: u32, b: u32) -> Formula {
+    Formula::Apply2(op, Kind::Int, Kind::Int, a, b)
+}
+
+// What `go` on wire 2 and `keep` on wire 3 give.
+fn first_operations(alloc: Global) -> Result<Vec<(u32, Formula)>, NoMemory> {
+    let n = FIRST_FURTHER;
+    Ok(vec![in alloc;
+        (n, Formula::Const(1)),
+        (n + 1, Formula::Apply1(Op1::Plus, Kind::Int, n)),
+        (53, Formula::Choose(2, n + 1, 0)),
+        (54, Formula::Const(0)),
+        (n + 2, Formula::Const(1)),
+        (52, status(Op2::Equal, 53, n + 2)),
+        (n + 3, Formula::Const(1)),
+        (n + 4, Formula::Apply1(Op1::Plus, Kind::Int, n + 3)),
+        (58, Formula::Choose(52, n + 4, 0)),
+        (n + 5, Formula::Const(5)),
+        (59, Formula::Choose(0, n + 5, n + 5)),
+        (60, Formula::Choose(52, 59, 11)),
+    ]?)
+}
+
+fn other_operations(alloc: Global) -> Result<Vec<(u32, Formula)>, NoMemory> {
+    let n = FIRST_FURTHER;
+    Ok(vec![in alloc;
+        (n + 6, Formula::Const(1)),
+        (57, status(Op2::Equal, 58, n + 6)),
+        (n + 7, Formula::Const(2)),
+        (n + 8, Formula::Apply1(Op1::Plus, Kind::Int, n + 7)),
+        (61, Formula::Choose(57, n + 8, 0)),
+        (62, Formula::And(57, 3)),
+        (n + 9, status(Op2::Less, 61, 58)),
+        (55, Formula::Choose(n + 9, 58, 61)),
+        (n + 10, status(Op2::Less, 55, 53)),
+        (50, Formula::Choose(n + 10, 53, 55)),
+    ]?)
+}
+
+fn stand_from(builder: &Builder, first: usize, operations: &[(u32, Formula)]) -> bool {
+    for (i, (wire, formula)) in operations.iter().enumerate() {
+        if !is_at(builder, first.saturating_add(i), *wire, *formula) {
+            return false;
+        }
+    }
+    true
+}
+
+fn is_only(list: &[Guarded], condition: u32, value: u32) -> bool {
+    match list {
+        [one] => one.condition == condition && one.value == value,
+        _ => false,
+    }
+}
+
+#[test]
+fn parts_of_a_sequence_start_in_turn(rt: HostRuntime) -> Result<(), Fail> {
+    let alloc = rt.alloc();
+    let tables = no_tables(alloc);
+    let term = turns(alloc)?;
+    let mut b = copy_builder(alloc)?;
+    let given = Given {
+        go: 2,
+        hold: 0,
+        keep: 3,
+        register: 0,
+    };
+    let made = start(&mut b, alloc, &tables, &term, given)?;
+    assert_eq!(rt; (made.status, made.live, made.ends), (50, 0, false));
+    assert_eq!(rt; (b.builder.equations.len(), b.builder.next), (22, 63));
+    assert!(rt; stand_from(&b.builder, 0, &first_operations(alloc)?));
+    assert!(rt; stand_from(&b.builder, 12, &other_operations(alloc)?));
+    assert_eq!(rt; (b.wires.variables[0], b.wires.variables[1]), (10, 60));
+    assert!(rt;
+        matches!(
+            b.changes.as_slice(),
+            [Change {
+                variable: 1,
+                before: 11
+            }]
+        )
+    );
+    assert!(rt; is_only(&b.emits[0], 2, 54));
+    assert!(rt; is_only(&b.sets[0], 62, 62));
     Ok(())
 }
