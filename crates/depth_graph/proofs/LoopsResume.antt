@@ -17,6 +17,7 @@ use Rattle.surf_graph.specs.declared.copy_builder.Made.{Made}
 use Rattle.surf_graph.specs.declared.wire_tables.WireTables.{WireTables}
 use Rattle.surf_graph.specs.Building.{Writes, wires_in}
 use Rattle.surf_graph.specs.Copying.{SpellsOut, bucket, emits_of, sets_of, is_own, own_sets, logs, context, Changes, SameTables, Builds}
+use Rattle.surf_graph.specs.StartsBuilt.{Starts}
 use Rattle.surf_graph.specs.definitions.Changes.{undone}
 use Rattle.surf_graph.specs.definitions.Copies.{Context, Copy, Sets, has, joined, starting_if, start_context, part_context, turn_own}
 use Rattle.surf_graph.specs.definitions.Formulas.{Wires, Equation, Greater, IsStatus}
@@ -25,8 +26,9 @@ use Rattle.surf_graph.specs.definitions.StartingCopies.{writes0, start}
 use Rattle.surf_graph.proofs.Alternatives.{has_append}
 use Rattle.surf_graph.proofs.CopiesBuilt.{tables_both, emits_both}
 use Rattle.surf_graph.proofs.SpellingOut.{equation, none_spelled_out, both_spelled_out, other_spelled_out, more_spelled_out}
+use Rattle.surf_graph.proofs.SequenceStarts.{nothing_adds}
 use Rattle.surf_graph.proofs.Undoing.{logs_both, undone_both, undone_same}
-use Rattle.depth_graph.specs.ResumesBuilt.{Resumes, StartsIf}
+use Rattle.depth_graph.specs.ResumesBuilt.{Resumes, StartsIf, Takes}
 use Rattle.depth_graph.specs.definitions.ResumingCopies.{writes1, resume}
 
 -- the context of a copy behind another
@@ -166,3 +168,24 @@ loop_is_resumed tables old mid new taken turned last given p n b made ni tn te t
       ends = refl;
       register = r.register;
     }
+
+-- a starting copy that is built or isn't
+
+pub nothing_starts_if : (tables : Tables) (b : CopyBuilder) (given : Given) (p : Stmt) (may : Bool) → may ≡ false → StartsIf tables b b given p may 0
+nothing_starts_if tables b given p may e =
+    subst (λ m. StartsIf tables b b given p m 0) (sym e)
+    (record { built = nothing_adds b given.register (registers tables p) (context b given) (λ x. refl) refl; status = refl })
+
+pub one_starts_if : (tables : Tables) (old new : CopyBuilder) (given : Given) (p : Stmt) (may : Bool) (made : Made) → may ≡ true → Starts tables old new given p made → StartsIf tables old new given p may made.status
+one_starts_if tables old new given p may made e s =
+    subst (λ m. StartsIf tables old new given p m made.status) (sym e) (record { built = s.built; status = s.status })
+
+pub loop_is_closed : (tables : Tables) (old mid new : CopyBuilder) (taken turned last : Builder) (given : Given) (p : Stmt) (n b : ℕ) (made : Made)
+    → Takes old.builder taken 3 n → Resumes tables (record old { builder = taken }) mid given p made
+    → Writes mid.builder turned (spelled mid.builder.further (IsStatus made.status 0)) (n + 2)
+    → StartsIf tables (record mid { builder = turned }) new (turn given n) p made.ends b
+    → Writes new.builder last (spelled new.builder.further (Greater made.status b)) n
+    → Resumes tables old (record new { builder = last }) given (Loop p) (record { status = n; live = made.live; ends = false; register = made.register })
+loop_is_closed tables old mid new taken turned last given p n b made t r wt s wg =
+    loop_is_resumed tables old mid new taken turned last given p n b made t.first t.next t.equations t.further r wt
+    (subst (λ m. StartsIf tables (record mid { builder = turned }) new (turn given n) p m b) r.ends s) wg

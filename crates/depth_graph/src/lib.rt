@@ -5,6 +5,7 @@ mod domain_laws;
 mod formulas;
 mod laws;
 mod resuming_leaves;
+mod resuming_loops;
 mod rows;
 
 pub use domain_laws::resuming_domains_tell_ticks;
@@ -14,4 +15,5 @@ pub use laws::{
 };
 pub use formulas::{give_and_not, give_register};
 pub use resuming_leaves::{resume_nothing, resume_pause, resume_receive, resume_send};
+pub use resuming_loops::{close_loop, start_if};
 pub use rows::{resuming_emission, resuming_loop, resuming_pause, resuming_sequence};

@@ -87,14 +87,14 @@ owned_if true a d ys o = o
 owned_if false a d ys o = owned_none d.next d.next d.wires.variables (omega arith)
 
 -- what a starting copy may assign is assigned in the statement
-in_both : (xs ys : List ℕ) (x : ℕ) (a b : Bool) → (has xs x ≡ true → a ≡ true) → (has ys x ≡ true → b ≡ true) → has (xs ++ ys) x ≡ true → a || b ≡ true
+pub in_both : (xs ys : List ℕ) (x : ℕ) (a b : Bool) → (has xs x ≡ true → a ≡ true) → (has ys x ≡ true → b ≡ true) → has (xs ++ ys) x ≡ true → a || b ≡ true
 in_both xs ys x a b f g h = either_true (has xs x) (has ys x) (sym (has_append xs ys x) ∙ h) (λ i. or_left a b (f i)) (λ i. or_right a b (g i))
 
-in_if : (t : Bool) (ys : List ℕ) (x : ℕ) (b : Bool) → (has ys x ≡ true → b ≡ true) → has (cond t ys []) x ≡ true → b ≡ true
+pub in_if : (t : Bool) (ys : List ℕ) (x : ℕ) (b : Bool) → (has ys x ≡ true → b ≡ true) → has (cond t ys []) x ≡ true → b ≡ true
 in_if true ys x b f h = f h
 in_if false ys x b f h = absurd (let z : ⊥ = cc in z)
 
-none_in : {C : Type 0} → false ≡ true → C
+pub none_in : {C : Type 0} → false ≡ true → C
 none_in h = absurd (let z : ⊥ = cc in z)
 
 pub starting_writes : (p : Stmt) (x : ℕ) → has (writes0 p) x ≡ true → writes p x ≡ true

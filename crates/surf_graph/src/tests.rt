@@ -184,6 +184,9 @@ fn variables_of_two_alternatives(rt: HostRuntime) -> Result<(), Fail> {
     assert_eq!(rt; changes.len(), 5);
     assert!(rt; is_logged(&changes, 3, 0, 1));
     assert!(rt; is_logged(&changes, 4, 1, 20));
+    Ok(())
+}
+
 // One signal and one register, and own wires from 50 on.
 fn copy_builder(alloc: Global) -> Result<CopyBuilder, NoMemory>
     ensures variables { IfOk result (λ b. length b.wires.variables.items ≡ 2) }
