@@ -138,8 +138,8 @@ built_of_loop tables old mid new taken turned last given p a b tn te tf A ia sa 
       next = y.next;
     } in
     let same : whole ≡ resume tables (Loop p) (context old given) =
-      ap (λ y. made A y) ib
-      ∙ ap (λ x. made x (second_of tables p (start_context (n + 2) r x (context old given)))) ia in
+    ap (λ y. made A y) ib
+    ∙ ap (λ x. made x (second_of tables p (start_context (n + 2) r x (context old given)))) ia in
     subst (Builds old (record new { builder = last }) r m (writes1 p ++ cond (ends1 p) (writes0 p) [])) same all
 
 pub loop_is_resumed : (tables : Tables) (old mid new : CopyBuilder) (taken turned last : Builder) (given : Given) (p : Stmt) (n b : ℕ) (made : Made)
@@ -155,7 +155,7 @@ loop_is_resumed tables old mid new taken turned last given p n b made ni tn te t
     let A = resume tables p (part_context given.go 3 c) in
     let g : Builds (record old { builder = taken }) mid given.register (registers tables p) (writes1 p) A = subst (λ d. Builds (record old { builder = taken }) mid given.register (registers tables p) (writes1 p) (resume tables p d)) at r.built in
     let d : context (record mid { builder = turned }) (turn given n) ≡ start_context (n + 2) given.register A c =
-      context_behind old (record mid { builder = turned }) given (turn given n) A refl refl g.tables g.variables (wt.next ∙ g.next) in
+    context_behind old (record mid { builder = turned }) given (turn given n) A refl refl g.tables g.variables (wt.next ∙ g.next) in
     let e : context (record mid { builder = turned }) (turn given n) ≡ start_context (old.builder.next + 2) given.register A c = d ∙ ap (λ i. start_context (i + 2) given.register A c) ni in
     let B = second_of tables p (context (record mid { builder = turned }) (turn given n)) in
     record {
