@@ -1,7 +1,6 @@
 -- What builds the resuming copy of a loop: that of its body, and a starting copy behind it.
-use Rattle.std.proofs.Common.{◌≡◌, ℕ, ◌+◌, Bool, true, false, ◌||◌, cond, List, [], ◌∷◌, ◌++◌, length, refl, ap, ap₂, ◌∙◌, sym, subst, append_assoc, map}
+use Rattle.std.proofs.Common.{◌≡◌, ℕ, ◌+◌, Bool, true, false, ◌||◌, cond, List, [], ◌∷◌, ◌++◌, refl, ap, ap₂, ◌∙◌, sym, subst, append_assoc}
 use Rattle.std.specs.Prelude.{slice_index}
-use Rattle.std.specs.List.Sorted.{IsPermutation}
 use Rattle.std.proofs.Math.Path.{fun_ext}
 use Rattle.std.proofs.lemmas.List.{map-append}
 use Rattle.std.proofs.lemmas.List.Sorted.{IsPermutation-sym, IsPermutation-cons, IsPermutation-trans, IsPermutation-to_front, IsPermutation-append_left}
@@ -16,10 +15,10 @@ use Rattle.surf_graph.specs.declared.copy_builder.Guarded.{Guarded}
 use Rattle.surf_graph.specs.declared.copy_builder.Made.{Made}
 use Rattle.surf_graph.specs.declared.wire_tables.WireTables.{WireTables}
 use Rattle.surf_graph.specs.Building.{Writes, wires_in}
-use Rattle.surf_graph.specs.Copying.{SpellsOut, bucket, emits_of, sets_of, is_own, own_sets, logs, context, Changes, SameTables, Builds}
+use Rattle.surf_graph.specs.Copying.{SpellsOut, bucket, emits_of, sets_of, is_own, own_sets, context, Changes, SameTables, Builds}
 use Rattle.surf_graph.specs.StartsBuilt.{Starts}
 use Rattle.surf_graph.specs.definitions.Changes.{undone}
-use Rattle.surf_graph.specs.definitions.Copies.{Context, Copy, Sets, has, joined, starting_if, start_context, part_context, turn_own}
+use Rattle.surf_graph.specs.definitions.Copies.{Context, Copy, Sets, joined, starting_if, start_context, part_context, turn_own}
 use Rattle.surf_graph.specs.definitions.Formulas.{Wires, Equation, Greater, IsStatus}
 use Rattle.surf_graph.specs.definitions.SpelledOut.{spelled}
 use Rattle.surf_graph.specs.definitions.StartingCopies.{writes0, start}

@@ -1,5 +1,5 @@
 -- A variable that a resuming copy may assign gets a wire of the copy's own.
-use Rattle.std.proofs.Common.{◌≡◌, ℕ, ◌+◌, ◌≤◌, Bool, true, false, ◌||◌, cond, List, [], ◌∷◌, ◌++◌, refl, ◌∙◌, subst, arith}
+use Rattle.std.proofs.Common.{◌≡◌, ℕ, ◌+◌, ◌≤◌, Bool, true, false, ◌||◌, cond, [], ◌++◌, refl, ◌∙◌, subst, arith}
 use Rattle.kernel_terms.specs.declared.tables.Tables.{Tables}
 use Rattle.kernel_terms.specs.Statements.{Stmt, Nothing, Pause, Emit, Assign, If, Present, Seq, Loop, Par, Trap, Exit, Abort, Suspend, Local, Send, Receive, SendWaits, Sent, ReceiveWaits, Received}
 use Rattle.kernel_terms.specs.MayEnd.{ends1}
@@ -8,7 +8,7 @@ use Rattle.kernel_rules.specs.definitions.TickRule.{writes}
 use Rattle.surf_graph.specs.definitions.Copies.{Copy, Context, has, starting_if, start_context, other_context, part_context, branch_context, second_branch, weak_context, tested_context, local_context}
 use Rattle.surf_graph.specs.definitions.Sources.{IsSource}
 use Rattle.surf_graph.specs.definitions.StartingCopies.{writes0, start}
-use Rattle.surf_graph.proofs.Booleans.{or_left, or_right}
+use Rattle.surf_graph.proofs.Booleans.{or_right}
 use Rattle.surf_graph.proofs.OwnVariables.{Owned, owned_less, owned_more, owned_none, owned_behind, owned_choice, owned_beside, owned_if, in_both, in_if, none_in, only_one, starting_writes, start_owned}
 use Rattle.surf_graph.proofs.Passes.{start_passes, passes_if}
 use Rattle.depth_graph.specs.definitions.ResumingCopies.{writes1, writes_behind, held_context, resume}
