@@ -11,11 +11,10 @@ use Rattle.surf_graph.specs.declared.builder.Builder.{Builder}
 use Rattle.surf_graph.specs.declared.copy_builder.CopyBuilder.{CopyBuilder}
 use Rattle.surf_graph.specs.declared.copy_builder.Given.{Given}
 use Rattle.surf_graph.specs.declared.copy_builder.Guarded.{Guarded}
-use Rattle.surf_graph.specs.declared.copy_builder.Made.{Made}
 use Rattle.surf_graph.specs.Building.{wires_in}
-use Rattle.surf_graph.specs.Copying.{SpellsOut, buckets, bucket, emits_of, sets_of, own_sets, context, Changes, Builds}
+use Rattle.surf_graph.specs.Copying.{SpellsOut, buckets, bucket, emits_of, sets_of, own_sets, context, Builds}
 use Rattle.surf_graph.specs.StartsBuilt.{Owns}
-use Rattle.surf_graph.specs.definitions.Copies.{Copy, Sets, none, nothing_built}
+use Rattle.surf_graph.specs.definitions.Copies.{Copy, Sets, nothing_built}
 use Rattle.surf_graph.proofs.SpellingOut.{none_spelled_out}
 use Rattle.surf_graph.proofs.CopiesBuilt.{count_added, bucket_added, same_bucket, sets_where, no_sets, no_changes, same_tables}
 use Rattle.surf_graph.proofs.LeavesBuilt.{one_set}

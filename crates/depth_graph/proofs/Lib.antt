@@ -11,3 +11,4 @@ pub mod DomainResumes
 pub mod KindedResumingDomains
 pub mod LeavesResume
 pub mod LoopsResume
+pub mod OwnVariables

@@ -1,7 +1,6 @@
 -- What builds the resuming copy of a loop: that of its body, and a starting copy behind it.
-use Rattle.std.proofs.Common.{◌≡◌, ℕ, ◌+◌, Bool, true, false, ◌||◌, cond, List, [], ◌∷◌, ◌++◌, length, refl, ap, ap₂, ◌∙◌, sym, subst, append_assoc, map}
+use Rattle.std.proofs.Common.{◌≡◌, ℕ, ◌+◌, Bool, true, false, ◌||◌, cond, List, [], ◌∷◌, ◌++◌, refl, ap, ap₂, ◌∙◌, sym, subst, append_assoc}
 use Rattle.std.specs.Prelude.{slice_index}
-use Rattle.std.specs.List.Sorted.{IsPermutation}
 use Rattle.std.proofs.Math.Path.{fun_ext}
 use Rattle.std.proofs.lemmas.List.{map-append}
 use Rattle.std.proofs.lemmas.List.Sorted.{IsPermutation-sym, IsPermutation-cons, IsPermutation-trans, IsPermutation-to_front, IsPermutation-append_left}
@@ -16,17 +15,19 @@ use Rattle.surf_graph.specs.declared.copy_builder.Guarded.{Guarded}
 use Rattle.surf_graph.specs.declared.copy_builder.Made.{Made}
 use Rattle.surf_graph.specs.declared.wire_tables.WireTables.{WireTables}
 use Rattle.surf_graph.specs.Building.{Writes, wires_in}
-use Rattle.surf_graph.specs.Copying.{SpellsOut, bucket, emits_of, sets_of, is_own, own_sets, logs, context, Changes, SameTables, Builds}
+use Rattle.surf_graph.specs.Copying.{SpellsOut, bucket, emits_of, sets_of, is_own, own_sets, context, Changes, SameTables, Builds}
+use Rattle.surf_graph.specs.StartsBuilt.{Starts}
 use Rattle.surf_graph.specs.definitions.Changes.{undone}
-use Rattle.surf_graph.specs.definitions.Copies.{Context, Copy, Sets, has, joined, starting_if, start_context, part_context, turn_own}
+use Rattle.surf_graph.specs.definitions.Copies.{Context, Copy, Sets, joined, starting_if, start_context, part_context, turn_own}
 use Rattle.surf_graph.specs.definitions.Formulas.{Wires, Equation, Greater, IsStatus}
 use Rattle.surf_graph.specs.definitions.SpelledOut.{spelled}
 use Rattle.surf_graph.specs.definitions.StartingCopies.{writes0, start}
 use Rattle.surf_graph.proofs.Alternatives.{has_append}
 use Rattle.surf_graph.proofs.CopiesBuilt.{tables_both, emits_both}
 use Rattle.surf_graph.proofs.SpellingOut.{equation, none_spelled_out, both_spelled_out, other_spelled_out, more_spelled_out}
+use Rattle.surf_graph.proofs.SequenceStarts.{nothing_adds}
 use Rattle.surf_graph.proofs.Undoing.{logs_both, undone_both, undone_same}
-use Rattle.depth_graph.specs.ResumesBuilt.{Resumes, StartsIf}
+use Rattle.depth_graph.specs.ResumesBuilt.{Resumes, StartsIf, Takes}
 use Rattle.depth_graph.specs.definitions.ResumingCopies.{writes1, resume}
 
 -- the context of a copy behind another
@@ -136,8 +137,8 @@ built_of_loop tables old mid new taken turned last given p a b tn te tf A ia sa 
       next = y.next;
     } in
     let same : whole ≡ resume tables (Loop p) (context old given) =
-      ap (λ y. made A y) ib
-      ∙ ap (λ x. made x (second_of tables p (start_context (n + 2) r x (context old given)))) ia in
+    ap (λ y. made A y) ib
+    ∙ ap (λ x. made x (second_of tables p (start_context (n + 2) r x (context old given)))) ia in
     subst (Builds old (record new { builder = last }) r m (writes1 p ++ cond (ends1 p) (writes0 p) [])) same all
 
 pub loop_is_resumed : (tables : Tables) (old mid new : CopyBuilder) (taken turned last : Builder) (given : Given) (p : Stmt) (n b : ℕ) (made : Made)
@@ -153,7 +154,7 @@ loop_is_resumed tables old mid new taken turned last given p n b made ni tn te t
     let A = resume tables p (part_context given.go 3 c) in
     let g : Builds (record old { builder = taken }) mid given.register (registers tables p) (writes1 p) A = subst (λ d. Builds (record old { builder = taken }) mid given.register (registers tables p) (writes1 p) (resume tables p d)) at r.built in
     let d : context (record mid { builder = turned }) (turn given n) ≡ start_context (n + 2) given.register A c =
-      context_behind old (record mid { builder = turned }) given (turn given n) A refl refl g.tables g.variables (wt.next ∙ g.next) in
+    context_behind old (record mid { builder = turned }) given (turn given n) A refl refl g.tables g.variables (wt.next ∙ g.next) in
     let e : context (record mid { builder = turned }) (turn given n) ≡ start_context (old.builder.next + 2) given.register A c = d ∙ ap (λ i. start_context (i + 2) given.register A c) ni in
     let B = second_of tables p (context (record mid { builder = turned }) (turn given n)) in
     record {
@@ -166,3 +167,24 @@ loop_is_resumed tables old mid new taken turned last given p n b made ni tn te t
       ends = refl;
       register = r.register;
     }
+
+-- a starting copy that is built or isn't
+
+pub nothing_starts_if : (tables : Tables) (b : CopyBuilder) (given : Given) (p : Stmt) (may : Bool) → may ≡ false → StartsIf tables b b given p may 0
+nothing_starts_if tables b given p may e =
+    subst (λ m. StartsIf tables b b given p m 0) (sym e)
+    (record { built = nothing_adds b given.register (registers tables p) (context b given) (λ x. refl) refl; status = refl })
+
+pub one_starts_if : (tables : Tables) (old new : CopyBuilder) (given : Given) (p : Stmt) (may : Bool) (made : Made) → may ≡ true → Starts tables old new given p made → StartsIf tables old new given p may made.status
+one_starts_if tables old new given p may made e s =
+    subst (λ m. StartsIf tables old new given p m made.status) (sym e) (record { built = s.built; status = s.status })
+
+pub loop_is_closed : (tables : Tables) (old mid new : CopyBuilder) (taken turned last : Builder) (given : Given) (p : Stmt) (n b : ℕ) (made : Made)
+    → Takes old.builder taken 3 n → Resumes tables (record old { builder = taken }) mid given p made
+    → Writes mid.builder turned (spelled mid.builder.further (IsStatus made.status 0)) (n + 2)
+    → StartsIf tables (record mid { builder = turned }) new (turn given n) p made.ends b
+    → Writes new.builder last (spelled new.builder.further (Greater made.status b)) n
+    → Resumes tables old (record new { builder = last }) given (Loop p) (record { status = n; live = made.live; ends = false; register = made.register })
+loop_is_closed tables old mid new taken turned last given p n b made t r wt s wg =
+    loop_is_resumed tables old mid new taken turned last given p n b made t.first t.next t.equations t.further r wt
+    (subst (λ m. StartsIf tables (record mid { builder = turned }) new (turn given n) p m b) r.ends s) wg

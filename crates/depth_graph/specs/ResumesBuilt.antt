@@ -5,6 +5,7 @@ use Rattle.kernel_terms.specs.Statements.{Stmt}
 use Rattle.kernel_terms.specs.MayEnd.{ends1}
 use Rattle.kernel_rules.specs.definitions.Registers.{registers}
 use Rattle.kernel_rules.specs.definitions.TickRule.{ended_code, paused_code}
+use Rattle.surf_graph.specs.declared.builder.Builder.{Builder}
 use Rattle.surf_graph.specs.declared.copy_builder.CopyBuilder.{CopyBuilder}
 use Rattle.surf_graph.specs.declared.copy_builder.Given.{Given}
 use Rattle.surf_graph.specs.declared.copy_builder.Made.{Made}
@@ -56,3 +57,14 @@ pub record StartsIf (tables : Tables) (old new : CopyBuilder) (given : Given) (p
       (starting_if may (start tables p (context old given)) (context old given))
   pub status :
       status_is ≡ (starting_if may (start tables p (context old given)) (context old given)).status
+
+-- so many own wires are taken, of which n is the first
+pub record Takes (old taken : Builder) (count n : ℕ) : Type 0 where
+  pub first : n ≡ old.next
+  pub next : taken.next ≡ old.next + count
+  pub equations : taken.equations ≡ old.equations
+  pub further : taken.further ≡ old.further
+
+-- the builder with these operations
+abbrev pub with_builder : CopyBuilder → Builder → CopyBuilder
+with_builder b operations = record b { builder = operations }

@@ -10,7 +10,9 @@ ghost use Rattle.depth_graph.specs.ResumesBuilt.{Resumes, pause_own, waiting_own
 
 use crate::formulas::{give_and_not, give_register};
 use java_values::NoMemory;
-use surf_graph::{Builder, CopyBuilder, Given, Made, add_guarded, give_and, give_code, give_greater};
+use surf_graph::{
+    Builder, CopyBuilder, Given, Made, add_guarded, give_and, give_code, give_greater,
+};
 
 const ENDED: u32 = 0;
 

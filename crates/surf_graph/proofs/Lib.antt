@@ -44,6 +44,7 @@ pub mod Adding
 pub mod Undoing
 pub mod IncreasingVariables
 pub mod JoinedVariables
+pub mod OwnVariables
 pub mod SpellingOut
 pub mod CopiesBuilt
 pub mod LeavesBuilt

@@ -6,7 +6,7 @@ ghost use Rattle.kernel_terms.specs.Statements.{statement};
 
 use crate::builder::{Builder, FIRST_FURTHER};
 use crate::change::Change;
-use crate::copy_builder::{CopyBuilder, Given, Guarded};
+use crate::copy_builder::{CopyBuilder, Given, Guarded, Made};
 use crate::expression::{test, value};
 use crate::starting::start;
 use crate::statuses::{add_combined, give_status, give_trap, give_weak_abort};
@@ -178,6 +178,40 @@ fn wires_run_out(rt: HostRuntime) -> Result<(), Fail> {
     Ok(())
 }
 
+fn is_logged(changes: &[Change], at: usize, variable: u32, before: u32) -> bool {
+    match changes.get(at) {
+        Some(change) => change.variable == variable && change.before == before,
+        None => false,
+    }
+}
+
+// The first of two alternatives assigns variables 1, 0 and 1 again, and the second, whose own wires
+// begin with 20, variables 1 and 2.
+#[test]
+fn variables_of_two_alternatives(rt: HostRuntime) -> Result<(), Fail> {
+    let mut wires: Vec<u32> = vec![in rt.alloc(); 1, 2, 3, 4]?;
+    let mut changes: Vec<Change> = Vec::new(rt.alloc());
+    let mut builder = Builder::new(rt.alloc(), 30);
+    set_wire(&mut wires, &mut changes, 3, 9)?;
+    set_wire(&mut wires, &mut changes, 1, 10)?;
+    set_wire(&mut wires, &mut changes, 0, 11)?;
+    set_wire(&mut wires, &mut changes, 1, 12)?;
+    let left = undo(rt.alloc(), &mut wires, &mut changes, 1)?;
+    assert!(rt; &*wires == [1, 2, 3, 9].as_slice());
+    assert_eq!(rt; changes.len(), 1);
+    set_wire(&mut wires, &mut changes, 1, 20)?;
+    set_wire(&mut wires, &mut changes, 2, 21)?;
+    join(&mut builder, &mut wires, &mut changes, 5, &left, 20)?;
+    assert!(rt; &*wires == [11, 30, 21, 9].as_slice());
+    assert_eq!(rt; builder.next, 31);
+    assert_eq!(rt; builder.equations.len(), 1);
+    assert!(rt; is_at(&builder, 0, 30, Formula::Choose(5, 20, 12)));
+    assert_eq!(rt; changes.len(), 5);
+    assert!(rt; is_logged(&changes, 3, 0, 1));
+    assert!(rt; is_logged(&changes, 4, 1, 20));
+    Ok(())
+}
+
 // One signal and one register, and own wires from 50 on.
 fn copy_builder(alloc: Global) -> Result<CopyBuilder, NoMemory>
     ensures variables { IfOk result (λ b. length b.wires.variables.items ≡ 2) }
@@ -305,65 +339,53 @@ fn is_only(list: &[Guarded], condition: u32, value: u32) -> bool {
     }
 }
 
-#[test]
-fn parts_of_a_sequence_start_in_turn(rt: HostRuntime) -> Result<(), Fail> {
-    let alloc = rt.alloc();
+fn has_all_operations(builder: &Builder, alloc: Global) -> Result<bool, NoMemory> {
+    let first = first_operations(alloc)?;
+    let other = other_operations(alloc)?;
+    Ok(stand_from(builder, 0, &first) && stand_from(builder, 12, &other))
+}
+
+fn has_changed(b: &CopyBuilder) -> bool {
+    let old = matches!(
+        b.changes.as_slice(),
+        [Change {
+            variable: 1,
+            before: 11
+        }]
+    );
+    old && matches!(b.wires.variables.as_slice(), [10, 60])
+}
+
+fn has_set(b: &CopyBuilder) -> bool {
+    let emitted = matches!(b.emits.as_slice(), [list] if is_only(list.as_slice(), 2, 54));
+    emitted && matches!(b.sets.as_slice(), [list] if is_only(list.as_slice(), 62, 62))
+}
+
+fn start_turns(b: &mut CopyBuilder, alloc: Global) -> Result<Made, NoMemory>
+    requires variables { length b.old.wires.variables.items ≡ 2 }
+    requires signals { length b.old.emits.items ≡ 1 }
+    requires registers { length b.old.sets.items ≡ 1 }
+{
     let tables = no_tables(alloc);
     let term = turns(alloc)?;
-    let mut b = copy_builder(alloc)?;
     let given = Given {
         go: 2,
         hold: 0,
         keep: 3,
         register: 0,
     };
-    let made = start(&mut b, alloc, &tables, &term, given)?;
-    assert_eq!(rt; (made.status, made.live, made.ends), (50, 0, false));
-    assert_eq!(rt; (b.builder.equations.len(), b.builder.next), (22, 63));
-    assert!(rt; stand_from(&b.builder, 0, &first_operations(alloc)?));
-    assert!(rt; stand_from(&b.builder, 12, &other_operations(alloc)?));
-    assert_eq!(rt; (b.wires.variables[0], b.wires.variables[1]), (10, 60));
-    assert!(rt;
-        matches!(
-            b.changes.as_slice(),
-            [Change {
-                variable: 1,
-                before: 11
-            }]
-        )
-    );
-    assert!(rt; is_only(&b.emits[0], 2, 54));
-    assert!(rt; is_only(&b.sets[0], 62, 62));
-fn is_logged(changes: &[Change], at: usize, variable: u32, before: u32) -> bool {
-    match changes.get(at) {
-        Some(change) => change.variable == variable && change.before == before,
-        None => false,
-    }
+    start(b, alloc, &tables, &term, given)
 }
 
-// The first of two alternatives assigns variables 1, 0 and 1 again, and the second, whose own wires
-// begin with 20, variables 1 and 2.
 #[test]
-fn variables_of_two_alternatives(rt: HostRuntime) -> Result<(), Fail> {
-    let mut wires: Vec<u32> = vec![in rt.alloc(); 1, 2, 3, 4]?;
-    let mut changes: Vec<Change> = Vec::new(rt.alloc());
-    let mut builder = Builder::new(rt.alloc(), 30);
-    set_wire(&mut wires, &mut changes, 3, 9)?;
-    set_wire(&mut wires, &mut changes, 1, 10)?;
-    set_wire(&mut wires, &mut changes, 0, 11)?;
-    set_wire(&mut wires, &mut changes, 1, 12)?;
-    let left = undo(rt.alloc(), &mut wires, &mut changes, 1)?;
-    assert!(rt; &*wires == [1, 2, 3, 9].as_slice());
-    assert_eq!(rt; changes.len(), 1);
-    set_wire(&mut wires, &mut changes, 1, 20)?;
-    set_wire(&mut wires, &mut changes, 2, 21)?;
-    join(&mut builder, &mut wires, &mut changes, 5, &left, 20)?;
-    assert!(rt; &*wires == [11, 30, 21, 9].as_slice());
-    assert_eq!(rt; builder.next, 31);
-    assert_eq!(rt; builder.equations.len(), 1);
-    assert!(rt; is_at(&builder, 0, 30, Formula::Choose(5, 20, 12)));
-    assert_eq!(rt; changes.len(), 5);
-    assert!(rt; is_logged(&changes, 3, 0, 1));
-    assert!(rt; is_logged(&changes, 4, 1, 20));
+fn parts_of_a_sequence_start_in_turn(rt: HostRuntime) -> Result<(), Fail> {
+    let alloc = rt.alloc();
+    let mut b = copy_builder(alloc)?;
+    let made = start_turns(&mut b, alloc)?;
+    assert!(rt; made.status == 50 && made.live == 0 && !made.ends);
+    assert!(rt; b.builder.equations.len() == 22 && b.builder.next == 63);
+    assert!(rt; has_all_operations(&b.builder, alloc)?);
+    assert!(rt; has_changed(&b));
+    assert!(rt; has_set(&b));
     Ok(())
 }
