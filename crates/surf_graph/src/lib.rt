@@ -24,23 +24,23 @@ mod variables;
 mod wire_tables;
 
 pub use builder::{Builder, FIRST_FURTHER};
+pub use change::Change;
+pub use copy_builder::{CopyBuilder, Given, Guarded, Made, add_guarded, change_wire};
+pub use domain_formulas::{give_combined, give_or, give_place, give_same, give_zero};
 pub use domain_laws::{
     end_wires_tell_offers, starting_codes_tell_ticks, starting_domains_tell_ticks,
 };
+pub use domain_statuses::{StatusPlaces, StatusWires, give_statuses};
+pub use emissions::{Emitted, add_conditions, add_emissions, add_status};
 pub use expression::{test, value};
+pub use formulas::{
+    give_and, give_choice, give_code, give_constant, give_emitted, give_greater, give_is_status,
+    give_value,
+};
 pub use kind_laws::{
     fitting_entries_combine, operations_are_well_kinded, operations_of_formulas_are_well_kinded,
     spelled_equations_are_well_kinded, starting_copies_are_well_kinded,
     starting_domains_are_well_kinded,
-};
-pub use change::Change;
-pub use copy_builder::{CopyBuilder, Given, Guarded, Made, add_guarded, change_wire};
-pub use domain_formulas::{give_combined, give_or, give_place, give_same, give_zero};
-pub use domain_statuses::{StatusPlaces, StatusWires, give_statuses};
-pub use emissions::{Emitted, add_conditions, add_emissions, add_status};
-pub use formulas::{
-    give_and, give_choice, give_code, give_constant, give_emitted, give_greater, give_is_status,
-    give_value,
 };
 pub use laws::{
     starting_copies_tell_ticks, starting_operations_tell_ticks, starting_ticks_are_told,
