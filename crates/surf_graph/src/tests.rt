@@ -5,7 +5,6 @@ ghost use Rattle.kernel_terms.specs.Statements as statements;
 ghost use Rattle.kernel_terms.specs.Statements.{statement};
 
 use crate::builder::{Builder, FIRST_FURTHER};
-use crate::change::Change;
 use crate::copy_builder::{CopyBuilder, Given, Guarded, Made};
 use crate::expression::{test, value};
 use crate::starting::start;
@@ -346,19 +345,31 @@ fn has_all_operations(builder: &Builder, alloc: Global) -> Result<bool, NoMemory
 }
 
 fn has_changed(b: &CopyBuilder) -> bool {
-    let old = matches!(
-        b.changes.as_slice(),
-        [Change {
-            variable: 1,
-            before: 11
-        }]
-    );
-    old && matches!(b.wires.variables.as_slice(), [10, 60])
+    match b.changes.as_slice() {
+        [change] => change.variable == 1 && change.before == 11,
+        _ => false,
+    }
+}
+
+fn has_wires(b: &CopyBuilder) -> bool {
+    match b.wires.variables.as_slice() {
+        [x, y] => *x == 10 && *y == 60,
+        _ => false,
+    }
 }
 
 fn has_set(b: &CopyBuilder) -> bool {
-    let emitted = matches!(b.emits.as_slice(), [list] if is_only(list.as_slice(), 2, 54));
-    emitted && matches!(b.sets.as_slice(), [list] if is_only(list.as_slice(), 62, 62))
+    match b.sets.as_slice() {
+        [list] => is_only(list.as_slice(), 62, 62),
+        _ => false,
+    }
+}
+
+fn has_emitted(b: &CopyBuilder) -> bool {
+    match b.emits.as_slice() {
+        [list] => is_only(list.as_slice(), 2, 54),
+        _ => false,
+    }
 }
 
 fn start_turns(b: &mut CopyBuilder, alloc: Global) -> Result<Made, NoMemory>
@@ -385,7 +396,7 @@ fn parts_of_a_sequence_start_in_turn(rt: HostRuntime) -> Result<(), Fail> {
     assert!(rt; made.status == 50 && made.live == 0 && !made.ends);
     assert!(rt; b.builder.equations.len() == 22 && b.builder.next == 63);
     assert!(rt; has_all_operations(&b.builder, alloc)?);
-    assert!(rt; has_changed(&b));
-    assert!(rt; has_set(&b));
+    assert!(rt; has_changed(&b) && has_wires(&b));
+    assert!(rt; has_set(&b) && has_emitted(&b));
     Ok(())
 }
