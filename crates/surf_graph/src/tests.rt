@@ -5,6 +5,7 @@ ghost use Rattle.kernel_terms.specs.Statements as statements;
 ghost use Rattle.kernel_terms.specs.Statements.{statement};
 
 use crate::builder::{Builder, FIRST_FURTHER};
+use crate::change::Change;
 use crate::copy_builder::{CopyBuilder, Given, Guarded, Made};
 use crate::expression::{test, value};
 use crate::starting::start;
