@@ -95,9 +95,9 @@ module _ (tables : Tables) where
     over_alike : LivesApart tables (Par p q) n f → LivesApart tables (Par p q) n g
     over_alike h = (
       (λ on. let x = h.0 (live_alike ∙ on) in (
-          sym (ap (λ t. t || (ends0 p || ends1 p)) a.is_live) ∙ x.0,
-          sym (ap (λ t. t || (ends0 q || ends1 q)) b.is_live) ∙ x.1,
-        )),
+        sym (ap (λ t. t || (ends0 p || ends1 p)) a.is_live) ∙ x.0,
+        sym (ap (λ t. t || (ends0 q || ends1 q)) b.is_live) ∙ x.1,
+      )),
       a.is_apart h.1,
       b.is_apart h.2,
     )
@@ -297,9 +297,9 @@ module _ (tables : Tables) (ends : List EndOf) (apart : AreApart ends) (e : ℕ)
     both_over : LivesApart tables (Par p q) n f → LivesApart tables (Par p q) n g
     both_over h = (
       (λ on. let x = h.0 (sym both_live ∙ on) in (
-          ap (λ t. t || (ends0 p || ends1 p)) a.is_live ∙ x.0,
-          ap (λ t. t || (ends0 q || ends1 q)) b.is_live ∙ x.1,
-        )),
+        ap (λ t. t || (ends0 p || ends1 p)) a.is_live ∙ x.0,
+        ap (λ t. t || (ends0 q || ends1 q)) b.is_live ∙ x.1,
+      )),
       a.is_apart h.1,
       b.is_apart h.2,
     )
