@@ -1,22 +1,19 @@
 -- What a domain that can be compiled has: equations within the limits, and an end for each send and receive.
 use Rattle.std.proofs.Common.{◌≡◌, ◌≢◌, ℕ, ◌<◌, ◌≤◌, Bool, true, false, [], length, get_or, refl, sym, ap, ◌∙◌, subst, arith}
-use Rattle.std.specs.Prelude.{◌&&◌, ◌||◌, ◌==◌, not, nat_lt, None}
-use Rattle.std.proofs.lemmas.Bool.{true≢false, eqb-true, ltb-true}
+use Rattle.std.specs.Prelude.{◌&&◌, ◌||◌, not, None}
+use Rattle.std.proofs.lemmas.Bool.{true≢false}
 use Rattle.std.proofs.lemmas.List.{get_or-map}
 use Rattle.java_values.specs.declared.kind.Kind.TheVariants as kind
 use Rattle.kernel_terms.specs.declared.term.Term.{Term}
 use Rattle.kernel_terms.specs.declared.system.System.{System}
 use Rattle.kernel_terms.specs.declared.tables.Tables.{Tables}
 use Rattle.kernel_terms.specs.Systems.{tables_of, domains_of}
-use Rattle.kernel_terms.specs.TableEntries.{channel_at, signal_at, is_input, is_interface_of}
-use Rattle.kernel_terms.specs.Expressions.{Literal}
+use Rattle.kernel_terms.specs.TableEntries.{signal_at, is_input, is_interface_of}
 use Rattle.kernel_terms.specs.Statements.{statement}
 use Rattle.kernel_terms.specs.Statements as rules
 use Rattle.kernel_terms.specs.MayEnd as ends
-use Rattle.kernel_terms.specs.WellFormed.{Scope, fits_statement, can_use, is_emission, is_given}
+use Rattle.kernel_terms.specs.WellFormed.{Scope, fits_statement, can_use, is_emission}
 use Rattle.tick_tree.specs.definitions.Weight as weight
-use Rattle.cell_core.specs.declared.moves.Side.TheVariants.{Sender, Receiver}
-use Rattle.domain_core.specs.definitions.runs.Systems.{setup_of, IsSystem}
 use Rattle.kernel_terms.specs.Built.{is_built}
 use Rattle.domain_core.specs.definitions.step.Compiling.{CanCompile}
 use Rattle.domain_core.specs.definitions.step.Domains.{ends_of}
@@ -29,7 +26,6 @@ use Rattle.domain_core.proofs.lemmas.equations.BuiltCopies.{copies_are_fewer}
 use Rattle.domain_core.proofs.lemmas.runs.WellFormedSystems.{left, right, source_fits}
 use Rattle.domain_core.proofs.lemmas.step.SourceEnds.{source_ends}
 use Rattle.domain_core.proofs.lemmas.step.TickStates.{interface_below}
-use Rattle.kernel_rules.specs.definitions.LegalTick.{no_inputs}
 
 no_locals : (b : Bool) → b || false ≡ true → b ≡ true
 no_locals true h = refl

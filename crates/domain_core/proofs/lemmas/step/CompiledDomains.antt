@@ -5,18 +5,17 @@ use Rattle.std.specs.Global.{Global}
 use Rattle.std.specs.Int.Signed.{le_z_yes, ◌≤ℤ◌}
 use Rattle.std.proofs.lemmas.Bool.{true≢false}
 use Rattle.std.proofs.lemmas.List.{length-replicate, length-map}
-use Rattle.std.proofs.lemmas.List.FromFn.{length-range_with_len, get_or-range_with_len}
 use Rattle.java_values.specs.declared.kind.Kind.{Kind}
 use Rattle.java_values.specs.declared.kind.Kind.TheVariants as kind
 use Rattle.java_values.specs.Kinds.{IsInRange, lowest, highest}
 use Rattle.kernel_terms.specs.declared.system.System.{System}
 use Rattle.kernel_terms.specs.declared.tables.Tables.{Tables}
 use Rattle.kernel_terms.specs.Systems.{tables_of, domains_of}
-use Rattle.kernel_terms.specs.TableEntries.{channel_at, interface_of, received_by}
+use Rattle.kernel_terms.specs.TableEntries.{channel_at, interface_of}
 use Rattle.kernel_terms.specs.WellFormed.{Scope, fits_statement, same_kind}
 use Rattle.tick_log.specs.definitions.Containers.{LogState}
 use Rattle.kernel_terms.specs.Marks.{Going}
-use Rattle.kernel_rules.specs.definitions.Registers.{first_last, domain_registers, variables_held, values_held, last_held}
+use Rattle.kernel_rules.specs.definitions.Registers.{domain_registers, variables_held, values_held, last_held}
 use Rattle.domain_core.specs.declared.step.ends_of.EndJoin.{EndJoin}
 use Rattle.domain_core.specs.step.StepParts.{FitsAfter, pending}
 use Rattle.domain_core.specs.declared.step.parts.Program.{Program}
@@ -38,8 +37,7 @@ use Rattle.domain_core.specs.step.DomainKeeps.{HasScratch, Keeps}
 use Rattle.domain_core.proofs.lemmas.step.PhaseStates.{all_fit, own_registers}
 use Rattle.domain_core.proofs.lemmas.step.CompilableDomains.{has_ends}
 use Rattle.domain_core.proofs.lemmas.step.SourceEnds.{channels_apart}
-use Rattle.domain_core.proofs.lemmas.step.LastValues.{count_registers, last_fits, variables_zero, values_zero, last_zero}
-use Rattle.domain_core.proofs.lemmas.equations.BuiltRules.{registers-whole}
+use Rattle.domain_core.proofs.lemmas.step.LastValues.{last_fits, variables_zero, values_zero, last_zero}
 use Rattle.domain_core.proofs.lemmas.step.StateAnswers.{same_state}
 use Rattle.domain_core.proofs.lemmas.step.DomainSteps.{view_of}
 use Rattle.domain_core.proofs.lemmas.runs.WellFormedSystems.{left, right, source_fits}

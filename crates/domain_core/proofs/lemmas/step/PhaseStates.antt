@@ -1,13 +1,13 @@
 -- The state of a domain through the phases of a step.
-use Rattle.std.proofs.Common.{◌≡◌, ◌≢◌, ℕ, zero, suc, ◌+◌, ◌<◌, ◌≤◌, ℤ, Bool, true, false, cond, List, [], ◌∷◌, ◌++◌, length, get_or, Option, Some, None, refl, sym, ap, ◌∙◌, subst, inl, inr, ◌⊎◌, arith}
-use Rattle.std.specs.Prelude.{unwrap_or, IfSome, IsSomeAnd, ◌==◌, ◌&&◌, not}
+use Rattle.std.proofs.Common.{◌≡◌, ◌≢◌, ℕ, zero, suc, ◌+◌, ◌<◌, ◌≤◌, ℤ, Bool, true, false, cond, List, length, get_or, Option, Some, None, refl, sym, ap, ◌∙◌, subst, inl, inr, arith}
+use Rattle.std.specs.Prelude.{IfSome, IsSomeAnd, ◌==◌, not}
 use Rattle.std.proofs.lemmas.Option.{none-some}
-use Rattle.std.proofs.lemmas.Bool.{cases_eq, ne_eqb, eqb-true, true≢false}
+use Rattle.std.proofs.lemmas.Bool.{cases_eq, ne_eqb, true≢false}
 use Rattle.java_values.specs.declared.kind.Kind.{Kind}
 use Rattle.java_values.specs.Kinds.{IsInRange}
 use Rattle.java_values.specs.Arithmetic.{is_true}
 use Rattle.kernel_terms.specs.declared.tables.Tables.{Tables}
-use Rattle.kernel_terms.specs.TableEntries.{channel_at, received_by}
+use Rattle.kernel_terms.specs.TableEntries.{channel_at}
 use Rattle.kernel_terms.specs.Statements.{Stmt}
 use Rattle.kernel_terms.specs.Statements as rules
 use Rattle.kernel_rules.specs.definitions.Registers.{residual, domain_registers, FitRegisters}
@@ -32,7 +32,7 @@ use Rattle.domain_core.specs.definitions.step.Domains.{ends_of, state_held}
 use Rattle.domain_core.specs.definitions.step.Steps.{WaitsAs, Waits, IsAsk, FitsJoin, IsWaitingOffer}
 use Rattle.domain_core.specs.step.StepParts.{FitsAfter}
 use Rattle.domain_core.proofs.lemmas.runs.JoinedStatements.{still_sends, still_receives}
-use Rattle.domain_core.proofs.lemmas.step.StateJoins.{AreApart, ends_apart}
+use Rattle.domain_core.proofs.lemmas.step.StateJoins.{AreApart}
 use Rattle.domain_core.proofs.lemmas.step.BuiltJoins.{whole_waits, places_same, literals_all}
 use Rattle.domain_core.proofs.lemmas.step.StatementStates as any
 use Rattle.domain_core.proofs.lemmas.step.StatementValues.{ask_or, of_some, is_asked}
