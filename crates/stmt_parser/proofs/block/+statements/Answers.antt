@@ -13,7 +13,7 @@ pub braces-returns-in-Ok : goal.braces-returns-in-Ok
 braces-returns-in-Ok t c = braces-reads c.args.source.now c.args.tokens.now c.in-Some.open.rest.now c.in-Ok.read.rest.now c.in-Some.open.value c.args.depth c.in-Ok.read.value.items c.block_at.result c.in-Some.ensures c.if-depth-ge-MOST_OPEN.false c.in-Ok.ensures c.block_at.ensures
 
 pub branch-returns-in-Ok-other : goal.branch-returns-in-Ok-other
-branch-returns-in-Ok-other t c = if-reads c.args.source.now c.args.rest.now c.in-Ok.cond.rest.now c.in-Ok-braces.yes.rest.now c.in-Ok-other.last.rest.now c.in-Ok.cond.value c.in-Ok-braces.yes.value c.in-Ok-other.last.value c.args.first.now c.args.depth c.placed.result c.requires c.in-Ok.ensures c.in-Ok-braces.ensures c.in-Ok-other.ensures c.placed.ensures
+branch-returns-in-Ok-other t c = if-reads c.args.source.now c.args.rest.now c.in-Ok.cond.rest.now c.in-Ok-boxed_braces.yes.rest.now c.in-Ok-other.last.rest.now c.in-Ok.cond.value c.in-Ok-boxed_braces.yes.value c.in-Ok-other.last.value c.args.first.now c.args.depth c.placed.result c.requires c.in-Ok.ensures c.in-Ok-boxed_braces.ensures c.in-Ok-other.ensures c.placed.ensures
 
 pub form-returns-in-Empty : goal.form-returns-in-Empty
 form-returns-in-Empty t c = (let P : Start → Type 0 = λ s. ReadsForm c.args.source.now c.args.first.now s c.args.rest.now c.args.depth c.placed.result c.args.rest.now in subst P (sym c.in-Empty.is) (empty-reads c.args.source.now c.args.rest.now c.args.first.now c.args.depth c.placed.result (c.requires.role ∙ c.in-Empty.is) c.placed.ensures))
@@ -46,7 +46,7 @@ pub par-returns-in-Ok-others : goal.par-returns-in-Ok-others
 par-returns-in-Ok-others t c = par-reads c.args.source.now c.args.tokens.now c.args.rest.now c.in-Ok.read.rest.now c.in-Ok-others.last.rest.now c.args.first.now c.args.depth c.in-Ok.read.value c.in-Ok-others.last.value.items c.placed.result c.requires.is c.requires.role c.in-Ok.ensures c.in-Ok-others.ensures (c.placed.ensures ∙ ap (λ (x : List SourceBlock). placed c.args.first.now (form.Par c.in-Ok.read.value x)) c.from_vec.ensures)
 
 pub present-returns-in-Ok-other : goal.present-returns-in-Ok-other
-present-returns-in-Ok-other t c = present-reads c.args.source.now c.args.rest.now c.in-Ok.guard.rest.now c.in-Ok-braces.yes.rest.now c.in-Ok-other.last.rest.now c.in-Ok.guard.value c.in-Ok-braces.yes.value c.in-Ok-other.last.value c.args.first.now c.args.depth c.placed.result c.requires c.in-Ok.ensures c.in-Ok-braces.ensures c.in-Ok-other.ensures c.placed.ensures
+present-returns-in-Ok-other t c = present-reads c.args.source.now c.args.rest.now c.in-Ok.guard.rest.now c.in-Ok-boxed_braces.yes.rest.now c.in-Ok-other.last.rest.now c.in-Ok.guard.value c.in-Ok-boxed_braces.yes.value c.in-Ok-other.last.value c.args.first.now c.args.depth c.placed.result c.requires c.in-Ok.ensures c.in-Ok-boxed_braces.ensures c.in-Ok-other.ensures c.placed.ensures
 
 pub repeat-returns-in-Ok-braces : goal.repeat-returns-in-Ok-braces
 repeat-returns-in-Ok-braces t c = while-reads c.args.source.now c.args.rest.now c.in-Ok.inner.now c.in-Ok-braces.body.rest.now c.in-Ok-braces.body.value c.args.first.now c.args.depth c.placed.result c.requires c.in-Ok.ensures c.in-Ok-braces.ensures c.placed.ensures

@@ -5,6 +5,9 @@ use Rattle.stmt_parser.proofs.block.+statements.Given as goal
 abbrev pub decreases-braces : goal.decreases-braces
 decreases-braces l = 8 * length l.tokens.now + 0
 
+abbrev pub decreases-boxed_braces : goal.decreases-boxed_braces
+decreases-boxed_braces l = 8 * length l.tokens.now + 1
+
 abbrev pub decreases-par : goal.decreases-par
 decreases-par l = 8 * length l.tokens.now + 1
 
