@@ -14,13 +14,6 @@ pub fn add<T: Drop>(list: &mut Vec<T>, value: T) -> Result<(), NoMemory>
     Ok(())
 }
 
-/// An empty list with room for so many values.
-pub fn with_room<T: Drop>(alloc: Global, count: usize) -> Result<Vec<T>, NoMemory>
-    ensures { IfOk result (λ list. list.items ≡ []) }
-{
-    Ok(Vec::with_capacity(alloc, count)?)
-}
-
 /// The block, in memory of its own.
 pub fn boxed_block(
     alloc: Global,

@@ -5,7 +5,7 @@ ghost use Rattle.java_types.specs.definitions.TypedTrees.{value_for, condition_o
 use crate::conversions::{condition, given, updated};
 use crate::expressions::expression;
 use crate::failure::{TypeError, TypeFailure};
-use crate::lists::{add, boxed_block, with_room};
+use crate::lists::{add, boxed_block};
 use crate::ports::{combination_failure, copied_signal};
 use crate::tables::{channel_kind, signal_kind, variable_kind};
 use crate::test_copies::copied;
@@ -381,7 +381,7 @@ fn statements(
     ensures { MatchResult result (λ ss. all_checked (map (checked_stmt tables.now) statements.now) ≡
         fine ss) (IsFirst (all_checked (map (checked_stmt tables.now) statements.now))) }
 {
-    let mut typed = with_room(alloc, statements.len())?;
+    let mut typed = Vec::new(alloc);
     for part in statements {
         let part = statement(alloc, tables, part)?;
         add(&mut typed, part)?;

@@ -1,26 +1,22 @@
 use Rattle.std.proofs.Common.{rules, drop, map, ap, sym, ◌∙◌, ◌+◌, arith}
 use Rattle.java_types.specs.definitions.Checks.{all_checked}
 use Rattle.java_types.specs.definitions.TypedTrees.{checked_block}
-use Rattle.java_types.proofs.FormLemmas.{is_exit, is_receive, is_await, condition_fails, branch_fails}
+use Rattle.java_types.proofs.FormLemmas.{is_exit, is_receive, is_await, condition_fails}
 use Rattle.java_types.proofs.ListLemmas.{drop_next, lists_next, lists_fail, prepended}
 use Rattle.java_types.proofs.statements.+typing.Goals as goal
 
-pub form-returns-in_err-cond-in-If : goal.form-returns-in_err-cond-in-If
-form-returns-in_err-cond-in-If t c =
+pub larger_form-returns-in_err-cond-in-If : goal.larger_form-returns-in_err-cond-in-If
+larger_form-returns-in_err-cond-in-If t c =
     let fails = condition_fails c.args.tables.now c.args.form.now c.in-If.cond c.in-If.yes c.in-If.other c.in_err-cond-in-If.field-0.0 c.in-If.is c.in_err-cond-in-If.ensures in search rules
 
-pub form-returns-in_err-yes-in-If : goal.form-returns-in_err-yes-in-If
-form-returns-in_err-yes-in-If t c =
-    let fails = branch_fails c.args.tables.now c.args.form.now c.in-If.cond c.in-If.yes c.in-If.other c.in_ok-cond-in-If.cond c.in_err-yes-in-If.field-0.0 c.in-If.is c.in_ok-cond-in-If.ensures c.in_err-yes-in-If.ensures in search rules
+pub larger_form-returns-in-Exit : goal.larger_form-returns-in-Exit
+larger_form-returns-in-Exit t c = is_exit c.args.tables.now c.args.form.now c.in-Exit.name_at c.in-Exit.name c.in-Exit.is
 
-pub form-returns-in-Exit : goal.form-returns-in-Exit
-form-returns-in-Exit t c = is_exit c.args.tables.now c.args.form.now c.in-Exit.name_at c.in-Exit.name c.in-Exit.is
+pub larger_form-returns-in-Receive : goal.larger_form-returns-in-Receive
+larger_form-returns-in-Receive t c = is_receive c.args.tables.now c.args.form.now c.in-Receive.name_at c.in-Receive.name c.in-Receive.is
 
-pub form-returns-in-Receive : goal.form-returns-in-Receive
-form-returns-in-Receive t c = is_receive c.args.tables.now c.args.form.now c.in-Receive.name_at c.in-Receive.name c.in-Receive.is
-
-pub form-returns-in_ok-test-in-Await : goal.form-returns-in_ok-test-in-Await
-form-returns-in_ok-test-in-Await t c =
+pub larger_form-returns-in_ok-test-in-Await : goal.larger_form-returns-in_ok-test-in-Await
+larger_form-returns-in_ok-test-in-Await t c =
     let same = c.in_ok-test-in-Await.ensures in is_await c.args.tables.now c.args.form.now c.in-Await.immediate c.in_ok-test-in-Await.test (cc)
 
 pub blocks-returns-in_err-part : goal.blocks-returns-in_err-part
